@@ -1,0 +1,19 @@
+-- `ormsvelg::ormsvelg_read` meets its contract: what the reader answers fits its number. Assumes nothing.
+use mathlib.Core.Path.{ap, _∙_}
+use borrow.Author.Needs.{needs}
+use Rattle.ormsvelg.specs.Packed.{pack, Packs}
+use Rattle.ormsvelg.proofs.Packing.{read-packs}
+use Rattle.ormsvelg.proofs.ormsvelg_read.Statement.{statement}
+use Rattle.ormsvelg.proofs.ormsvelg_read.Tie as tie
+
+read-requires : tie.Need-read-requires
+read-requires c κs = search needs
+
+packed-requires : tie.Need-packed-requires
+packed-requires c κs = rw (c .read .ensures) (read-packs _)
+
+returns : tie.Need-returns
+returns c = c .packed .ensures ∙ ap pack (c .before .read .ensures)
+
+pub ormsvelg-read-spec : {M : Type 1} → statement M
+ormsvelg-read-spec = tie.close (tie.spec read-requires packed-requires returns)

@@ -1,0 +1,26 @@
+// The C face: functions on numbers and byte slices for the bench's host program, each outcome as one 64-bit number
+// (document 01, "Bench use"). A slice passes as a pointer and a length; a null pointer with length 0 is an empty slice.
+// What each call does is said below; only the packing is of this crate.
+use sheet::Outcome;
+ghost use mathlib.Core.Path.{_≡_};
+ghost use Rattle.sheet.specs.Outcome.{readOutcome};
+ghost use Rattle.ormsvelg.specs.Packed.{pack, Packs};
+
+// The four numbers of an outcome in one.
+fn packed(o: Outcome) -> u64
+    requires { ⌜ Packs o ⌝ }
+    ensures { λ r. ⌜ r ≡ pack o ⌝ }
+{
+    (o.code as u64)
+        + 0x100 * (o.sheet as u64)
+        + 0x10000 * (o.place as u64)
+        + 0x10000000000 * (o.written as u64)
+}
+
+// The outcome of reading a job sheet.
+#[no_mangle]
+pub extern "C" fn ormsvelg_read(job: &[u8]) -> u64
+    ensures { λ r. ⌜ r ≡ pack (readOutcome (now (job .entry))) ⌝ }
+{
+    packed(sheet::job::read(job))
+}

@@ -1,0 +1,111 @@
+-- The whole sheet: the head was refused or found, then the rules, then the end. Assumes nothing.
+use mathlib.Core.Path.{_≡_, refl, sym, ap, _∙_}
+use mathlib.Core.List.{List, []}
+use Prim.Native.Nat.{ℕ, zero, suc, _+_, _*_, _≤_}
+use native.Mathlib.Omega.{arith}
+use lib.ListN.{length}
+use Rattle.sheet.specs.declared.Refusal.{Refusal}
+use Rattle.sheet.specs.declared.JobHead.{JobHead}
+use Rattle.sheet.specs.declared.HeadRead.{HeadRead}
+use Rattle.sheet.specs.declared.HeadRead.the-variants as headRead
+use Rattle.sheet.specs.declared.JobRead.{JobRead}
+use Rattle.sheet.specs.declared.JobRead.the-variants as jobRead
+use Rattle.sheet.specs.Step.{Step, got, refused}
+use Rattle.sheet.specs.Job.{Head, Verdict, accepted, rejected}
+use Rattle.sheet.specs.Outcome.{success, refusedJob, outcomeOf, readOutcome}
+use Rattle.sheet.specs.JobSheet.{countedMask, rules, end, head, job, readJob, termsOf, wireLimit, ruleLimit}
+use Rattle.sheet.specs.Found.{headOf, asHead, asJob, whyHeadOf, rulesPass, kept, keptRules}
+use Rattle.sheet.proofs.Entries.{next-inv, got-inj}
+use Rattle.sheet.proofs.Heads.{valueOf, through, through-not, head-facts}
+
+apart-heads : (x : HeadRead) (h : JobHead) (n : ℕ) (w : Refusal) → x ≡ headRead.Got h n → x ≡ headRead.Refused w → ⊥
+apart-heads x h n w p q = let z : _≡_ {A = ℕ} 0 1 = cc in omega arith
+
+pub head-found : (t : Step Head) (x : HeadRead) (h : JobHead) (at : ℕ) → x ≡ asHead t → x ≡ headRead.Got h at
+    → (H : Head) × (t ≡ got H at) × (h ≡ headOf H)
+head-found (got H n) x h at e p = let q : n ≡ at = cc in (H, ap (got H) q, cc)
+head-found (refused w) x h at e p = absurd (apart-heads x h at w p e)
+
+pub head-faulty : (t : Step Head) (x : HeadRead) (w : Refusal) → x ≡ asHead t → x ≡ headRead.Refused w → t ≡ refused w
+head-faulty (got H n) x w e p = absurd (apart-heads x _ n w e p)
+head-faulty (refused w′) x w e p = cc
+
+pub handed-head : (x : HeadRead) (w w′ : Refusal) → w′ ≡ whyHeadOf x → x ≡ headRead.Refused w → w′ ≡ w
+handed-head x w w′ e p = e ∙ ap whyHeadOf p
+
+-- as many rules as were asked for
+pub rules-length : (n terms : ℕ) (s : List ℕ) (at : ℕ) (rs : List ℕ) (m : ℕ) → rules n terms s at ≡ got rs m → length rs ≡ n
+unfolding rules
+rules-length zero terms s at rs m h = ap length (sym (got-inj [] rs at m h))
+rules-length (suc n) terms s at rs m h =
+    let i = next-inv (countedMask terms terms s at) _ rs m h in
+    let j = next-inv (rules n terms s (i .1)) _ rs m (i .3) in
+    ap length (sym (got-inj _ rs _ m (j .3))) ∙ ap suc (rules-length n terms s (i .1) (j .0) (j .1) (j .2))
+
+module _ (s : List ℕ) where
+  pub no-head : (w : Refusal) → head s 0 ≡ refused w → readJob s ≡ rejected w
+  unfolding readJob job
+  no-head w h = rw h
+
+  pub none-kept : (w : Refusal) → head s 0 ≡ refused w → keptRules s ≡ []
+  unfolding keptRules
+  none-kept w h = rw h
+
+  -- h and at are what the reader found, and H the definitions' head
+  module _ (h : JobHead) (at : ℕ) (H : Head) (f : head s 0 ≡ got H at) (same : h ≡ headOf H) where
+    pub bounds : (h .wires ≤ wireLimit) × (h .rules ≤ ruleLimit)
+    bounds = let t = head-facts s H at f in (rw same (t .0), rw same (t .1))
+
+    pub some-kept : kept (h .rules) (2 * h .wires + 4) s at ≡ keptRules s
+    unfolding keptRules
+    some-kept = rw (same, f)
+
+    same-rules : rulesPass (h .rules) (2 * h .wires + 4) s at ≡ rulesPass (H .count) (termsOf (H .wires)) s at
+    same-rules = rw same
+
+    pub no-rules : (w : Refusal) → rulesPass (h .rules) (2 * h .wires + 4) s at ≡ refused w → readJob s ≡ rejected w
+    unfolding readJob job rulesPass
+    no-rules w r = rw (f, through-not (rules (H .count) (termsOf (H .wires)) s at) (H .count) w (sym same-rules ∙ r))
+
+    module _ (v q : ℕ) (r : rulesPass (h .rules) (2 * h .wires + 4) s at ≡ got v q) where
+      abbrev rs : List ℕ
+      rs = valueOf [] (rules (H .count) (termsOf (H .wires)) s at)
+
+      found-rules : rules (H .count) (termsOf (H .wires)) s at ≡ got rs q
+      unfolding rulesPass
+      found-rules = through [] (rules (H .count) (termsOf (H .wires)) s at) (H .count) v q (sym same-rules ∙ r)
+
+      pub no-end : (w : Refusal) → end s q ≡ refused w → readJob s ≡ rejected w
+      unfolding readJob job
+      no-end w z = rw (f, found-rules, z)
+
+      pub all : (u m : ℕ) → end s q ≡ got u m → jobRead.Accepted h ≡ asJob (readJob s)
+      unfolding readJob job
+      all u m z =
+          let wires = head-facts s H at f .2 in
+          let count = rules-length (H .count) (termsOf (H .wires)) s at rs q found-rules in
+          rw (f, found-rules, z)
+          (ap jobRead.Accepted (same ∙ (λ i. record { wires = sym wires i; «sees_a» = H .seesA; «sees_b» = H .seesB; rules = sym count i; «pins_at» = 1 })))
+
+-- what a sheet that was taken apart comes to
+apart-jobs : (x : JobRead) (h : JobHead) (w : Refusal) → x ≡ jobRead.Accepted h → x ≡ jobRead.Refused w → ⊥
+apart-jobs x h w p q = let z : _≡_ {A = ℕ} 0 1 = cc in omega arith
+
+verdict-accepted : (v : Verdict) (x : JobRead) (h : JobHead) → x ≡ asJob v → x ≡ jobRead.Accepted h → success 0 0 ≡ outcomeOf v
+verdict-accepted (accepted j) x h e p = refl
+verdict-accepted (rejected w) x h e p = absurd (apart-jobs x h w p e)
+
+verdict-refused : (v : Verdict) (x : JobRead) (w : Refusal) → x ≡ asJob v → x ≡ jobRead.Refused w → v ≡ rejected w
+verdict-refused (accepted j) x w e p = absurd (apart-jobs x _ w e p)
+verdict-refused (rejected w′) x w e p = cc
+
+pub job-refused : (s : List ℕ) (x : JobRead) (w : Refusal) → x ≡ asJob (readJob s) → x ≡ jobRead.Refused w → readJob s ≡ rejected w
+job-refused s x w e p = verdict-refused (readJob s) x w e p
+
+pub read-accepted : (s : List ℕ) (x : JobRead) (h : JobHead) → x ≡ asJob (readJob s) → x ≡ jobRead.Accepted h → success 0 0 ≡ readOutcome s
+unfolding readOutcome
+read-accepted s x h e p = verdict-accepted (readJob s) x h e p
+
+pub read-refused : (s : List ℕ) (x : JobRead) (w : Refusal) → x ≡ asJob (readJob s) → x ≡ jobRead.Refused w → refusedJob 1 w ≡ readOutcome s
+unfolding readOutcome
+read-refused s x w e p = sym (ap outcomeOf (job-refused s x w e p))

@@ -1,0 +1,171 @@
+-- What a sheet that is accepted has, for whoever calls `read_job`: j is the job, s the sheet.
+--     pins-stay       the pins stand in the sheet, from place 1 on
+--     rules-front     the lent array begins with the rules
+--     job-bounds, seen-bounds, rule-bounds      how many pins, rules and seen wires there are, and what each set is below
+-- Assumes nothing.
+use mathlib.Core.Path.{_≡_, sym, ap, _∙_}
+use mathlib.Core.List.{List, [], _∷_}
+use Prim.Native.Nat.{ℕ, zero, suc, _+_, _*_, _^_, _≤_, _<_}
+use native.Mathlib.Nat.{zero-add, pow-suc}
+use native.Mathlib.Numerals.{add-one}
+use native.Mathlib.Omega.{arith}
+use lib.ListN.{length, getD, take, drop}
+use lib.Count.{ones}
+use lib.Pow.{pow-mono}
+use lib.Seq.{sets, sets-eq, drop-cons, take-append-seam}
+use Rattle.sheet.specs.Step.{Step, got, refused}
+use Rattle.sheet.specs.Job.{Job, Head, accepted}
+use Rattle.sheet.specs.JobSheet.{entry, entries, maskOf, mask, count, countedMask, wordCount, rules, head, end, job, readJob, verdictOf, termsOf, wireLimit, seenLimit, ruleLimit, pinLimit}
+use Rattle.sheet.specs.Found.{kept, keptRules}
+use Rattle.sheet.proofs.Entries.{next-inv, got-inj, entry-bounds, entry-byte}
+use Rattle.sheet.proofs.Heads.{count-bounds, head-facts}
+use Rattle.sheet.proofs.Jobs.{rules-length}
+use Rattle.sheet.proofs.Ones.{counted-ones}
+
+-- entries that were found stand in the sheet
+entries-are : (n limit least : ℕ) (s : List ℕ) (at : ℕ) (es : List ℕ) (m : ℕ) → entries n limit least s at ≡ got es m → es ≡ take n (drop at s)
+unfolding entries
+entries-are zero limit least s at es m h = sym (got-inj [] es at m h)
+entries-are (suc n) limit least s at es m h =
+    let i = next-inv (entry limit least s at) _ es m h in
+    let j = next-inv (entries n limit (i .0 + 1) s (i .1)) _ es m (i .3) in
+    let b = entry-byte limit least s at (i .0) (i .1) (i .2) in
+    let rest : j .0 ≡ take n (drop (suc at) s) = entries-are n limit (i .0 + 1) s (i .1) (j .0) (j .1) (j .2) ∙ ap (λ (k : ℕ). take n (drop k s)) (b .2 ∙ add-one at) in
+    sym (got-inj _ es _ m (j .3)) ∙ (λ k. b .1 k ∷ rest k) ∙ ap (take (suc n)) (sym (drop-cons s at 0 (b .0)))
+
+-- a set that was found is below the bit of its limit
+entries-lt : (n limit least : ℕ) (s : List ℕ) (at : ℕ) (es : List ℕ) (m : ℕ) → least ≤ limit → entries n limit least s at ≡ got es m → maskOf es + 2 ^ least ≤ 2 ^ limit
+unfolding entries maskOf
+entries-lt zero limit least s at es m l h = rw (← got-inj [] es at m h, zero-add) (pow-mono l)
+entries-lt (suc n) limit least s at es m l h =
+    let i = next-inv (entry limit least s at) _ es m h in
+    let j = next-inv (entries n limit (i .0 + 1) s (i .1)) _ es m (i .3) in
+    let b = entry-bounds limit least s at (i .0) (i .1) (i .2) in
+    let more : maskOf (j .0) + 2 ^ (i .0 + 1) ≤ 2 ^ limit = entries-lt n limit (i .0 + 1) s (i .1) (j .0) (j .1) (omega arith) (j .2) in
+    let twice : 2 ^ (i .0 + 1) ≡ 2 ^ i .0 * 2 = ap (λ (k : ℕ). 2 ^ k) (add-one (i .0)) ∙ pow-suc 2 (i .0) in
+    let low : 2 ^ least ≤ 2 ^ i .0 = pow-mono (b .1) in
+    rw (← got-inj _ es _ m (j .3)) (omega arith)
+
+mask-lt : (n limit : ℕ) (s : List ℕ) (at v m : ℕ) → mask n limit s at ≡ got v m → v < 2 ^ limit
+unfolding mask
+mask-lt n limit s at v m h =
+    let i = next-inv (entries n limit 0 s at) _ v m h in
+    let same : maskOf (i .0) ≡ v = got-inj _ v _ m (i .3) in
+    let most : maskOf (i .0) + 2 ^ 0 ≤ 2 ^ limit = entries-lt n limit 0 s at (i .0) (i .1) (omega arith) (i .2) in
+    omega arith
+
+counted-lt : (most limit : ℕ) (s : List ℕ) (at v m : ℕ) → countedMask most limit s at ≡ got v m → v < 2 ^ limit
+unfolding countedMask
+counted-lt most limit s at v m h = let i = next-inv (count most s at) _ v m h in mask-lt (i .0) limit s (i .1) v m (i .3)
+
+head-sets : (s : List ℕ) (h : Head) (at : ℕ) → head s 0 ≡ got h at → (h .seesA < 2 ^ h .wires) × (h .seesB < 2 ^ h .wires) × (h .pins ≡ take (h .wires) (drop 1 s)) × (ones (h .seesA) ≤ seenLimit) × (ones (h .seesB) ≤ seenLimit)
+unfolding head
+head-sets s h at e =
+    let i₁ = next-inv (count wireLimit s 0) _ h at e in
+    let i₂ = next-inv (entries (i₁ .0) pinLimit 0 s (i₁ .1)) _ h at (i₁ .3) in
+    let i₃ = next-inv (countedMask seenLimit (i₁ .0) s (i₂ .1)) _ h at (i₂ .3) in
+    let i₄ = next-inv (countedMask seenLimit (i₁ .0) s (i₃ .1)) _ h at (i₃ .3) in
+    let i₅ = next-inv (wordCount ruleLimit s (i₄ .1)) _ h at (i₄ .3) in
+    let same = got-inj _ _ _ _ (i₅ .3) in
+    let place : i₁ .1 ≡ 1 = count-bounds wireLimit s 0 (i₁ .0) (i₁ .1) (i₁ .2) .1 in
+    let pins : i₂ .0 ≡ take (i₁ .0) (drop (i₁ .1) s) = entries-are (i₁ .0) pinLimit 0 s (i₁ .1) (i₂ .0) (i₂ .1) (i₂ .2) in
+    rw (← same) (
+      counted-lt seenLimit (i₁ .0) s (i₂ .1) (i₃ .0) (i₃ .1) (i₃ .2),
+      counted-lt seenLimit (i₁ .0) s (i₃ .1) (i₄ .0) (i₄ .1) (i₄ .2),
+      pins ∙ ap (λ (k : ℕ). take (i₁ .0) (drop k s)) place,
+      counted-ones seenLimit (i₁ .0) s (i₂ .1) (i₃ .0) (i₃ .1) (i₃ .2),
+      counted-ones seenLimit (i₁ .0) s (i₃ .1) (i₄ .0) (i₄ .1) (i₄ .2),
+    )
+
+-- the rules that were found are those that are stored, and each is below the bit of the terms' number
+kept-is : (n terms : ℕ) (s : List ℕ) (at : ℕ) (rs : List ℕ) (m : ℕ) → rules n terms s at ≡ got rs m → kept n terms s at ≡ rs
+unfolding rules kept
+kept-is zero terms s at rs m h = got-inj [] rs at m h
+kept-is (suc n) terms s at rs m h =
+    let i = next-inv (countedMask terms terms s at) _ rs m h in
+    let j = next-inv (rules n terms s (i .1)) _ rs m (i .3) in
+    rw (i .2) (ap (λ (l : List ℕ). i .0 ∷ l) (kept-is n terms s (i .1) (j .0) (j .1) (j .2)) ∙ got-inj _ rs _ m (j .3))
+
+Below : ℕ → List ℕ → Type 0
+Below b l = (i : ℕ) → i < length l → getD l i 0 < b
+
+below-nil : (b : ℕ) → Below b []
+unfolding Below
+below-nil b i p = omega arith
+
+below-cons : (b r : ℕ) (l : List ℕ) → r < b → Below b l → Below b (r ∷ l)
+unfolding Below
+below-cons b r l h f zero p = h
+below-cons b r l h f (suc i) p = f i (omega arith)
+
+rules-lt : (n terms : ℕ) (s : List ℕ) (at : ℕ) (rs : List ℕ) (m : ℕ) → rules n terms s at ≡ got rs m → Below (2 ^ terms) rs
+unfolding rules
+rules-lt zero terms s at rs m h = rw (← got-inj [] rs at m h) (below-nil (2 ^ terms))
+rules-lt (suc n) terms s at rs m h =
+    let i = next-inv (countedMask terms terms s at) _ rs m h in
+    let j = next-inv (rules n terms s (i .1)) _ rs m (i .3) in
+    rw (← got-inj _ rs _ m (j .3))
+    (below-cons (2 ^ terms) (i .0) (j .0) (counted-lt terms terms s at (i .0) (i .1) (i .2)) (rules-lt n terms s (i .1) (j .0) (j .1) (j .2)))
+
+pub accepted-inv : (t : Step Job) (j : Job) → verdictOf t ≡ accepted j → (m : ℕ) × (t ≡ got j m)
+accepted-inv (got k m) j h = let e : k ≡ j = cc in (m, ap (λ (x : Job). got x m) e)
+accepted-inv (refused w) j h = let z : _≡_ {A = ℕ} 0 1 = cc in let no : ⊥ = omega arith in absurd no
+
+-- the sections of a sheet that is accepted
+sections : (s : List ℕ) (j : Job) → readJob s ≡ accepted j
+    → (h : Head) × (at m : ℕ) × (head s 0 ≡ got h at) × (rules (h .count) (termsOf (h .wires)) s at ≡ got (j .rules) m) × (j .pins ≡ h .pins) × (j .seesA ≡ h .seesA) × (j .seesB ≡ h .seesB)
+unfolding readJob job
+sections s j ok =
+    let a = accepted-inv (job s 0) j ok in
+    let i = next-inv (head s 0) _ j (a .0) (a .1) in
+    let r = next-inv (rules (i .0 .count) (termsOf (i .0 .wires)) s (i .1)) _ j (a .0) (i .3) in
+    let e = next-inv (end s (r .1)) _ j (a .0) (r .3) in
+    let same = got-inj _ j _ _ (e .3) in (
+      i .0,
+      i .1,
+      r .1,
+      i .2,
+      r .2 ∙ ap (λ (k : Job). got (k .rules) (r .1)) same,
+      sym (ap (λ (k : Job). k .pins) same),
+      sym (ap (λ (k : Job). k .seesA) same),
+      sym (ap (λ (k : Job). k .seesB) same),
+    )
+
+module _ (s : List ℕ) (j : Job) (ok : readJob s ≡ accepted j) where
+  pub pins-stay : j .pins ≡ take (length (j .pins)) (drop 1 s)
+  pins-stay =
+      let x = sections s j ok in
+      let n : length (j .pins) ≡ x .0 .wires = ap length (x .5) ∙ head-facts s (x .0) (x .1) (x .3) .2 in
+      x .5 ∙ head-sets s (x .0) (x .1) (x .3) .2 ∙ ap (λ (k : ℕ). take k (drop 1 s)) (sym n)
+
+  -- all that is stored is the rules
+  pub rules-kept : keptRules s ≡ j .rules
+  unfolding keptRules
+  rules-kept = let x = sections s j ok in rw (x .3) (kept-is (x .0 .count) (termsOf (x .0 .wires)) s (x .1) (j .rules) (x .2) (x .4))
+
+  pub rules-front : (buf : List ℕ) → length (j .rules) ≤ length buf → take (length (j .rules)) (sets buf 0 (keptRules s)) ≡ j .rules
+  rules-front buf l =
+      let fits : 0 + length (j .rules) ≤ length buf = omega arith in
+      rw (rules-kept, sets-eq (j .rules) buf 0 fits) (take-append-seam (j .rules) (drop (0 + length (j .rules)) buf))
+
+  pub job-bounds : (length (j .pins) ≤ wireLimit) × (length (j .rules) ≤ ruleLimit) × (j .seesA < 2 ^ length (j .pins)) × (j .seesB < 2 ^ length (j .pins))
+  job-bounds =
+      let x = sections s j ok in
+      let f = head-facts s (x .0) (x .1) (x .3) in
+      let g = head-sets s (x .0) (x .1) (x .3) in
+      let n : length (j .pins) ≡ x .0 .wires = ap length (x .5) ∙ f .2 in
+      let k : length (j .rules) ≡ x .0 .count = rules-length (x .0 .count) (termsOf (x .0 .wires)) s (x .1) (j .rules) (x .2) (x .4) in
+      (rw n (f .0), rw k (f .1), rw (x .6, n) (g .0), rw (x .7, n) (g .1))
+
+  pub seen-bounds : (ones (j .seesA) ≤ seenLimit) × (ones (j .seesB) ≤ seenLimit)
+  seen-bounds =
+      let x = sections s j ok in
+      let g = head-sets s (x .0) (x .1) (x .3) in
+      (rw (x .6) (g .3), rw (x .7) (g .4))
+
+  pub rule-bounds : (i : ℕ) → i < length (j .rules) → getD (j .rules) i 0 < 2 ^ termsOf (length (j .pins))
+  unfolding Below
+  rule-bounds i h =
+      let x = sections s j ok in
+      let n : length (j .pins) ≡ x .0 .wires = ap length (x .5) ∙ head-facts s (x .0) (x .1) (x .3) .2 in
+      rw n (rules-lt (x .0 .count) (termsOf (x .0 .wires)) s (x .1) (j .rules) (x .2) (x .4) i h)

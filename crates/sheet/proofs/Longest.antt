@@ -1,0 +1,145 @@
+-- One sheet has exactly the longest length and is accepted: 12 wires, 8 seen by each cell, 256 rules of all 28 terms.
+--     longestSheet       the sheet
+--     longest-length     its length
+--     longest-accepted   it is accepted
+-- Assumes nothing.
+use mathlib.Core.Path.{_≡_, refl, sym, ap, ap₂, _∙_}
+use mathlib.Core.List.{List, [], _∷_, _++_, append-nil, append-assoc}
+use Prim.Native.Nat.{ℕ, zero, suc, _+_, _*_, _≤_, _<_}
+use native.Mathlib.Nat.{add-zero, not-suc-le-zero}
+use native.Mathlib.Omega.{arith}
+use borrow.Author.Tests.{lt-ltb, le-ltb, le-leb}
+use lib.ListN.{length, getD, length-append, List·getD-append}
+use lib.Seq.{getD-append-add}
+use Rattle.sheet.specs.Step.{Step, got, next}
+use Rattle.sheet.specs.Job.{Job, Head, accepted}
+use Rattle.sheet.specs.JobSheet.{byte, word, within, count, wordCount, rising, entry, entries, maskOf, mask, countedMask, rules, end, head, job, readJob, longest}
+use Rattle.sheet.proofs.Near.{Alike, near-head, byte-there}
+
+-- the numbers from i on, n of them
+upFrom : ℕ → ℕ → List ℕ
+upFrom zero i = []
+upFrom (suc n) i = i ∷ upFrom n (i + 1)
+
+-- a count and as many entries
+full : ℕ → List ℕ
+full n = n ∷ upFrom n 0
+
+times : ℕ → List ℕ → List ℕ
+times zero l = []
+times (suc n) l = l ++ times n l
+
+front : List ℕ
+front = full 12 ++ full 8 ++ full 8 ++ (0 ∷ 1 ∷ [])
+
+pub longestSheet : List ℕ
+longestSheet = front ++ times 256 (full 28)
+
+-- ---- a full set of terms is found where it stands
+
+entry-there : (limit least : ℕ) (s : List ℕ) (at : ℕ) → at < length s → getD s at 0 ≡ least → least < limit → entry limit least s at ≡ got least (at + 1)
+unfolding entry rising
+entry-there limit least s at l e h = rw (byte-there s at l, e, lt-ltb least limit h, le-leb least least (omega arith))
+
+entries-full : (n limit least : ℕ) (s : List ℕ) (at : ℕ) → at + n ≤ length s → least + n ≤ limit → ((i : ℕ) → i < n → getD s (at + i) 0 ≡ least + i)
+    → entries n limit least s at ≡ got (upFrom n least) (at + n)
+unfolding entries upFrom
+entries-full zero limit least s at l m h = ap (got []) (sym (add-zero at))
+entries-full (suc n) limit least s at l m h =
+    let e : getD s at 0 ≡ least = ap (λ (k : ℕ). getD s k 0) (sym (add-zero at)) ∙ h 0 (omega arith) ∙ add-zero least in
+    let first = entry-there limit least s at (omega arith) e (omega arith) in
+    let rest = entries-full n limit (least + 1) s (at + 1) (omega arith) (omega arith) (λ i g. entries-next s at least i (h (i + 1) (omega arith))) in
+    let place : at + 1 + n ≡ at + suc n = omega arith in
+    rw (first, rest) (ap (got (least ∷ upFrom n (least + 1))) place)
+  where
+    entries-next : (s : List ℕ) (at least i : ℕ) → getD s (at + (i + 1)) 0 ≡ least + (i + 1) → getD s (at + 1 + i) 0 ≡ least + 1 + i
+    entries-next s at least i h =
+        let p : at + 1 + i ≡ at + (i + 1) = omega arith in
+        ap (λ (k : ℕ). getD s k 0) p ∙ h ∙ omega arith
+
+up-at : (n i least : ℕ) → i < n → getD (upFrom n least) i 0 ≡ least + i
+unfolding upFrom
+up-at zero i least h = absurd (not-suc-le-zero h)
+up-at (suc n) zero least h = sym (add-zero least)
+up-at (suc n) (suc i) least h = up-at n i (least + 1) (omega arith) ∙ omega arith
+
+-- the bytes of s from `at` on begin with the list l
+Stands : List ℕ → ℕ → List ℕ → Type 0
+Stands s at l = (i : ℕ) → i < length l → getD s (at + i) 0 ≡ getD l i 0
+
+up-length : (n i : ℕ) → length (upFrom n i) ≡ n
+unfolding upFrom
+up-length zero i = refl
+up-length (suc n) i = ap suc (up-length n (i + 1))
+
+full-length : (n : ℕ) → length (full n) ≡ suc n
+unfolding full
+full-length n = ap suc (up-length n 0)
+
+counted-full : (n : ℕ) (s : List ℕ) (at : ℕ) → at + suc n ≤ length s → Stands s at (full n) → countedMask n n s at ≡ got (maskOf (upFrom n 0)) (at + suc n)
+unfolding countedMask mask count within Stands full
+counted-full n s at l h =
+    let e : getD s at 0 ≡ n = ap (λ (k : ℕ). getD s k 0) (sym (add-zero at)) ∙ h 0 (omega arith) in
+    let there : byte s at ≡ got (getD s at 0) (at + 1) = byte-there s at (omega arith) in
+    let place : at + 1 + n ≡ at + suc n = omega arith in
+    let all : entries n n 0 s (at + 1) ≡ got (upFrom n 0) (at + 1 + n) = entries-full n n 0 s (at + 1) (omega arith) (omega arith) (λ i g. later i g) in
+    rw (there, e, le-leb n n (omega arith), all) (ap (got (maskOf (upFrom n 0))) place)
+  where
+    later : (i : ℕ) → i < n → getD s (at + 1 + i) 0 ≡ 0 + i
+    later i g =
+        let p : at + 1 + i ≡ at + suc i = omega arith in
+        ap (λ (k : ℕ). getD s k 0) p ∙ h (suc i) (omega (arith, full-length n)) ∙ up-at n i 0 g
+
+after-front : (p l t : List ℕ) → Stands (p ++ (l ++ t)) (length p) l
+unfolding Stands
+after-front p l t i h = getD-append-add p (l ++ t) i 0 ∙ List·getD-append l t 0 i h
+
+rules-full : (k n : ℕ) (p : List ℕ) → (rs : List ℕ) × (rules k n (p ++ times k (full n)) (length p) ≡ got rs (length (p ++ times k (full n))))
+unfolding rules times
+rules-full zero n p = ([], ap (λ (l : List ℕ). got [] (length l)) (sym (append-nil p)))
+rules-full (suc k) n p =
+    let ih = rules-full k n (p ++ full n) in
+    let place : length (p ++ full n) ≡ length p + suc n = length-append p (full n) ∙ ap (λ (m : ℕ). length p + m) (full-length n) in
+    let room : length (p ++ (full n ++ times k (full n))) ≡ length p + (suc n + length (times k (full n))) =
+    length-append p (full n ++ times k (full n)) ∙ ap (λ (m : ℕ). length p + m) (length-append (full n) (times k (full n)) ∙ ap (λ (m : ℕ). m + length (times k (full n))) (full-length n)) in
+    let first = counted-full n (p ++ (full n ++ times k (full n))) (length p) (omega arith) (after-front p (full n) (times k (full n))) in
+    let rest : rules k n (p ++ (full n ++ times k (full n))) (length p + suc n) ≡ got (ih .0) (length (p ++ (full n ++ times k (full n)))) =
+    ap₂ (λ (s : List ℕ) (at : ℕ). rules k n s at) (sym (append-assoc p (full n) (times k (full n)))) (sym place) ∙ ih .1
+    ∙ ap (λ (s : List ℕ). got (ih .0) (length s)) (append-assoc p (full n) (times k (full n))) in
+    (maskOf (upFrom n 0) ∷ ih .0, rw (first, rest))
+
+-- ---- the whole sheet
+
+times-length : (k : ℕ) (l : List ℕ) → length (times k l) ≡ k * length l
+unfolding times
+times-length zero l = omega arith
+times-length (suc k) l = length-append l (times k l) ∙ omega (arith, times-length k l)
+
+pub longest-length : length longestSheet ≡ longest
+unfolding longestSheet front full upFrom
+longest-length = length-append front (times 256 (full 28)) ∙ ap (λ (m : ℕ). length front + m) (times-length 256 (full 28))
+
+front-alike : Alike 33 longestSheet front
+unfolding longestSheet front full upFrom
+front-alike = record {
+  long = omega (arith, longest-length);
+  as-long = omega arith;
+  same = λ i h. List·getD-append front (times 256 (full 28)) 0 i h;
+}
+
+front-head : Head
+front-head = record { wires = 12; pins = upFrom 12 0; seesA = 255; seesB = 255; count = 256 }
+
+front-is : head front 0 ≡ got front-head 33
+unfolding front-head front full upFrom byte word within count wordCount rising entry entries maskOf mask countedMask head
+front-is = refl
+
+at-end : (s : List ℕ) → end s (length s) ≡ got 0 (length s)
+unfolding end
+at-end s = rw (le-ltb (length s) (length s) (omega arith))
+
+pub longest-accepted : (j : Job) × (readJob longestSheet ≡ accepted j)
+unfolding readJob job longestSheet front-head front full upFrom
+longest-accepted =
+    let r = rules-full 256 28 front in
+    (record { pins = upFrom 12 0; seesA = 255; seesB = 255; rules = r .0 }, rw (near-head .alike 33 longestSheet front front-alike (omega arith) ∙ front-is, r .1, at-end longestSheet))

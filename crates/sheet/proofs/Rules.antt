@@ -1,0 +1,59 @@
+-- A turn of the loop that reads the rules and stores each. Assumes nothing.
+use mathlib.Core.Path.{_≡_, ap}
+use mathlib.Core.List.{List, _∷_}
+use Prim.Native.Nat.{ℕ, suc, _+_, _-_, _≤_, _<_}
+use native.Mathlib.Omega.{arith}
+use native.Mathlib.Numerals.{add-one}
+use lib.ListN.{set}
+use lib.Seq.{sets}
+use Rattle.sheet.specs.declared.Refusal.{Refusal}
+use Rattle.sheet.specs.Step.{got, refused, next, Reading}
+use Rattle.sheet.specs.JobSheet.{countedMask, rules}
+use Rattle.sheet.specs.Found.{rulesPass, kept}
+use Rattle.sheet.proofs.Entries.{assoc}
+
+-- what is left of n rules, of which nothing but the place is told
+abbrev pub rulesFrom : (left terms n : ℕ) → Reading ℕ
+rulesFrom left terms n s at = next (rules left terms s at) (λ rs a. got n a)
+
+pub rules-start : (n terms : ℕ) (s : List ℕ) (at : ℕ) → rulesPass n terms s at ≡ rulesFrom (n - 0) terms n s at
+unfolding rulesPass
+rules-start n terms s at = let e : n ≡ n - 0 = omega arith in ap (λ (j : ℕ). rulesFrom j terms n s at) e
+
+pub kept-start : (n terms : ℕ) (s : List ℕ) (at : ℕ) (buf : List ℕ) → sets buf 0 (kept n terms s at) ≡ sets buf 0 (kept (n - 0) terms s at)
+kept-start n terms s at buf = let e : n ≡ n - 0 = omega arith in ap (λ (j : ℕ). sets buf 0 (kept j terms s at)) e
+
+module _ (n i terms : ℕ) (s : List ℕ) (at : ℕ) where
+  module _ (more : i < n) where
+    one : n - i ≡ suc (n - (i + 1))
+    one = omega arith
+
+    pub rules-go : (r a : ℕ) → countedMask terms terms s at ≡ got r a → rulesFrom (n - i) terms n s at ≡ rulesFrom (n - (i + 1)) terms n s a
+    unfolding rules
+    rules-go r a h = rw (one, h) (assoc (rules (n - (i + 1)) terms s a) (λ rs b. got (r ∷ rs) b) (λ rs b. got n b))
+
+    pub rules-stop : (w : Refusal) → countedMask terms terms s at ≡ refused w → rulesFrom (n - i) terms n s at ≡ refused w
+    unfolding rules
+    rules-stop w h = rw (one, h)
+
+    -- the rule that was read is stored at i
+    pub kept-go : (buf : List ℕ) (r a : ℕ) → countedMask terms terms s at ≡ got r a
+        → sets buf i (kept (n - i) terms s at) ≡ sets (set buf i r) (i + 1) (kept (n - (i + 1)) terms s a)
+    unfolding kept
+    kept-go buf r a h = rw (one, h, add-one)
+
+    pub kept-stop : (buf : List ℕ) (w : Refusal) → countedMask terms terms s at ≡ refused w → sets buf i (kept (n - i) terms s at) ≡ buf
+    unfolding kept
+    kept-stop buf w h = rw (one, h)
+
+  module _ (all : n ≤ i) where
+    none : n - i ≡ 0
+    none = omega arith
+
+    pub rules-done : rulesFrom (n - i) terms n s at ≡ got n at
+    unfolding rules
+    rules-done = rw none
+
+    pub kept-done : (buf : List ℕ) → sets buf i (kept (n - i) terms s at) ≡ buf
+    unfolding kept
+    kept-done buf = rw none

@@ -1,0 +1,68 @@
+// The numbers below everything: wires seen as masks, the row that a combination shows, and the terms of rules as masks.
+// Document 01, "Numbers used". The definitions stand in specs/Wires and specs/Terms; the laws that callers cite in
+// proofs/Rows and proofs/Terms. Leans on nothing.
+ghost use mathlib.Core.Path.{_≡_};
+ghost use mathlib.Core.Bool.{true};
+ghost use mathlib.Core.Logic.{_↔_};
+ghost use Prim.Native.Nat.{ℕ, _-_, _^_, _<_};
+ghost use lib.Count.{ones};
+ghost use Rattle.wires.specs.Wires.{shown};
+ghost use Rattle.wires.specs.Terms.{Setting, Truths, Meets};
+
+// How many rows a cell has that sees the wires of `seen`: two to their number.
+pub fn row_count(seen: u32) -> usize
+    ensures { λ r. ⌜ r ≡ 2 ^ ones seen ⌝ }
+{
+    1usize << u32::count_ones(seen)
+}
+
+// The row that the combination `a` shows to a cell that sees the wires of `seen`: the next wire is the
+// lowest that is left, and its value goes to the next digit of the row.
+pub fn row_shown(seen: u32, a: u32) -> u32
+    ensures row { λ r. ⌜ ((n : ℕ) → seen < 2 ^ n → r ≡ shown n seen a) ⌝ }
+    ensures below { λ r. ⌜ r < 2 ^ ones seen ⌝ }
+{
+    let mut left = seen;
+    let mut row: u32 = 0;
+    let mut at: u32 = 0;
+    while left != 0 {
+        let p = u32::trailing_zeros(left);
+        row = row | (((a >> p) & 1) << at);
+        at += 1;
+        left = left & (left - 1);
+    }
+    row
+}
+
+// The digits of the two terms of a variable: the plain one is true where the value is 1, the negated one where it is 0.
+fn term_pair(value: u32) -> u32
+    requires { ⌜ value < 2 ⌝ }
+    ensures { λ r. ⌜ r ≡ 2 - value ⌝ }
+{
+    if value == 1 { 1 } else { 2 }
+}
+
+// The set of the true terms where the wires have the combination `a`, cell A has `x` and cell B has `y`.
+pub fn truths(n: u32, a: u32, x: u32, y: u32) -> u32
+    requires { ⌜ Setting n a x y ⌝ }
+    ensures { λ r. ⌜ Truths n a x y r ⌝ }
+{
+    let values = a | (x << n) | (y << (n + 1));
+    let mut set: u32 = 0;
+    let mut v: u32 = 0;
+    while v < n + 2 {
+        set = set | (term_pair((values >> v) % 2) << (2 * v));
+        v += 1;
+    }
+    set
+}
+
+// Whether some term of the rule is among the true ones.
+pub fn rule_holds(rule: u32, truths: u32) -> bool
+    ensures { λ r. ⌜ (r ≡ true) ↔ Meets rule truths ⌝ }
+{
+    if rule & truths == 0 {
+        return false;
+    }
+    true
+}
