@@ -2,11 +2,11 @@
 #   make test                       the whole gate, .ci/run
 #   make read JOB=FILE              what the reader says of a job sheet, in words
 #   make host-test                  the C tests over the static library
-#   make compare SEED=1 COUNT=2000  random cases against the independent second program
+#   make compare SEED=1 COUNT=200000  random cases against the independent second program
 #   make speed                      the library's times against plain C's, native
 
 SEED ?= 1
-COUNT ?= 2000
+COUNT ?= 200000
 
 LIBRARY = target/staticlib/libormsvelg.a
 C = -std=c11 -Wall -Wextra -Werror

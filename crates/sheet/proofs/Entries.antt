@@ -88,6 +88,9 @@ entry-byte limit least s at v n h =
     let r = rising-is limit least at (i .0) (i .1) v n s (i .3) in
     (byte-in s at (i .0) (i .1) (i .2), r .0 ∙ byte-is s at (i .0) (i .1) (i .2), r .1 ∙ byte-next s at (i .0) (i .1) (i .2))
 
+pub entry-next : (limit least : ℕ) (s : List ℕ) (at v n : ℕ) → entry limit least s at ≡ got v n → entry limit least s at ≡ got v (at + 1)
+entry-next limit least s at v n h = h ∙ ap (got v) (entry-byte limit least s at v n h .2)
+
 -- a turn of a loop over entries, of which `left` are left: the first of them was found, or refused
 module _ {B : Type 0} (limit least : ℕ) (s : List ℕ) (at : ℕ) (k : List ℕ → ℕ → Step B) where
   go-suc : (m e n : ℕ) → entry limit least s at ≡ got e n

@@ -32,7 +32,7 @@ const PIN_LIMIT: u32 = 256;
 // The length of an array with room for the most rules.
 pub const RULES: usize = 256;
 
-// The pins, of which nothing is kept.
+// The pins, of which nothing is kept. An entry is one byte, so the next place waits for no answer.
 pub fn check_pins(sheet: &[u8], at: usize, count: u32) -> Read
     ensures { λ r. ⌜ r ≡ asRead (pinsPass count (now (sheet .entry)) at) ⌝ }
 {
@@ -41,11 +41,11 @@ pub fn check_pins(sheet: &[u8], at: usize, count: u32) -> Read
     let mut left = count;
     while 0 < left {
         let pin = read_entry(sheet, place, PIN_LIMIT, least);
-        let Read::Got(number, next) = pin else {
+        let Read::Got(number, _) = pin else {
             return pin;
         };
         least = number + 1;
-        place = next;
+        place += 1;
         left -= 1;
     }
     Read::Got(count, place)
@@ -62,12 +62,12 @@ pub fn read_set(sheet: &[u8], at: usize, count: u32, limit: u32) -> Read
     let mut left = count;
     while 0 < left {
         let member = read_entry(sheet, place, limit, least);
-        let Read::Got(e, next) = member else {
+        let Read::Got(e, _) = member else {
             return member;
         };
         bits = bits | (1 << e);
         least = e + 1;
-        place = next;
+        place += 1;
         left -= 1;
     }
     Read::Got(bits, place)

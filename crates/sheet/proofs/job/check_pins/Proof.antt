@@ -4,7 +4,7 @@ use native.Mathlib.Omega.{arith}
 use Rattle.sheet.specs.Step.{next, got}
 use Rattle.sheet.specs.Found.{asRead, pinsPass}
 use Rattle.sheet.proofs.Steps.{found, faulty}
-use Rattle.sheet.proofs.Entries.{entry-bounds, entries-go, entries-stop, entries-none}
+use Rattle.sheet.proofs.Entries.{entry-bounds, entry-byte, entry-next, entries-go, entries-stop, entries-none}
 use borrow.Author.Needs.{needs}
 use Prim.Native.Nat.{_≤_}
 use mathlib.Core.Path.{_≡_}
@@ -47,6 +47,12 @@ add-least c =
     let within = entry-bounds _ _ _ _ _ _ (found _ _ _ _ (turn .read-entry .ensures) (c .before .pin .given .1)) in
     omega arith
 
+add-place : tie.Need-add-place Inv-loop μ-loop
+add-place c =
+    let turn = c .before .before .before in
+    let one = entry-byte _ _ _ _ _ _ (found _ _ _ _ (turn .read-entry .ensures) (c .before .pin .given .1)) in
+    omega arith
+
 sub-left : tie.Need-sub-left Inv-loop μ-loop
 sub-left c = search needs
 
@@ -59,7 +65,7 @@ loop-again c =
     let head = turn .before .before in
     let is = found _ _ _ _ (turn .read-entry .ensures) (c .before .pin .given .1) in
     let within = entry-bounds _ _ _ _ _ _ is in
-    (omega arith, head .loop .inv .1 ∙ entries-go _ _ _ _ _ _ _ _ (turn .before .loop-test .taken) is)
+    (omega arith, head .loop .inv .1 ∙ entries-go _ _ _ _ _ _ _ _ (turn .before .loop-test .taken) (entry-next _ _ _ _ _ _ is))
 
 returns-2 : tie.Need-returns-2 Inv-loop μ-loop
 returns-2 c = ap asRead (sym (c .before .loop .inv .1 ∙ entries-none _ _ _ _ _ _ (c .loop-test .left)))
@@ -76,6 +82,7 @@ check-pins-spec =
     enum-told
     returns
     add-least
+    add-place
     sub-left
     loop-less
     loop-again

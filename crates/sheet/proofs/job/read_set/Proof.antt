@@ -6,7 +6,7 @@ use native.Mathlib.Omega.{arith}
 use Rattle.sheet.specs.JobSheet.{mask}
 use Rattle.sheet.specs.Found.{asRead}
 use Rattle.sheet.proofs.Steps.{found, faulty}
-use Rattle.sheet.proofs.Entries.{entry-bounds, entries-stop}
+use Rattle.sheet.proofs.Entries.{entry-bounds, entry-byte, entry-next, entries-stop}
 use Rattle.sheet.proofs.Masks.{maskFrom, mask-start, mask-turn, mask-done}
 use Rattle.sheet.proofs.job.read_set.Statement.{statement}
 use Rattle.sheet.proofs.job.read_set.Tie as tie
@@ -49,6 +49,12 @@ add-least c =
     let within = entry-bounds _ _ _ _ _ _ (found _ _ _ _ (turn .read-entry .ensures) (c .before .member .given .1)) in
     omega arith
 
+add-place : tie.Need-add-place Inv-loop μ-loop
+add-place c =
+    let turn = c .before .before .before in
+    let one = entry-byte _ _ _ _ _ _ (found _ _ _ _ (turn .read-entry .ensures) (c .before .member .given .1)) in
+    omega arith
+
 sub-left : tie.Need-sub-left Inv-loop μ-loop
 sub-left c = search needs
 
@@ -61,7 +67,7 @@ loop-again c =
     let head = turn .before .before in
     let is = found _ _ _ _ (turn .read-entry .ensures) (c .before .member .given .1) in
     let within = entry-bounds _ _ _ _ _ _ is in
-    let next = mask-turn _ _ _ _ _ _ _ _ (turn .before .loop-test .taken) (head .loop .inv .1) (head .before .before .pre) is in
+    let next = mask-turn _ _ _ _ _ _ _ _ (turn .before .loop-test .taken) (head .loop .inv .1) (head .before .before .pre) (entry-next _ _ _ _ _ _ is) in
     (omega arith, next .0, head .loop .inv .2 ∙ next .1)
 
 returns-2 : tie.Need-returns-2 Inv-loop μ-loop
@@ -80,6 +86,7 @@ read-set-spec =
     returns
     shl-bits
     add-least
+    add-place
     sub-left
     loop-less
     loop-again

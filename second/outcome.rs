@@ -1,0 +1,48 @@
+// Outcomes as document 01 numbers them: code, sheet, place, bytes written, and all four in one 64-bit number.
+// A refusal knows its code and place; the sheet it names depends on which sheet was being read.
+// It leans on nothing.
+
+use std::fmt;
+
+#[derive(Clone, Copy, PartialEq, Eq, Debug)]
+pub struct Refusal {
+    pub code: u8,
+    pub place: usize,
+}
+
+#[derive(Clone, Copy, PartialEq, Eq, Debug)]
+pub struct Outcome {
+    pub code: u64,
+    pub sheet: u64,
+    pub place: u64,
+    pub written: u64,
+}
+
+pub const JOB: u64 = 1;
+
+impl Outcome {
+    /// A success that writes nothing.
+    pub fn success(code: u8) -> Outcome {
+        Outcome { code: code as u64, sheet: 0, place: 0, written: 0 }
+    }
+
+    pub fn refused(refusal: Refusal, sheet: u64) -> Outcome {
+        Outcome { code: refusal.code as u64, sheet, place: refusal.place as u64, written: 0 }
+    }
+
+    /// From the low bits up: code in 8, sheet in 8, place in 24, bytes written in 24.
+    pub fn unpack(packed: u64) -> Outcome {
+        Outcome {
+            code: packed & 0xFF,
+            sheet: packed >> 8 & 0xFF,
+            place: packed >> 16 & 0xFF_FFFF,
+            written: packed >> 40,
+        }
+    }
+}
+
+impl fmt::Display for Outcome {
+    fn fmt(&self, out: &mut fmt::Formatter) -> fmt::Result {
+        write!(out, "code {}, sheet {}, place {}, written {}", self.code, self.sheet, self.place, self.written)
+    }
+}

@@ -1,0 +1,140 @@
+// Reads a job sheet by document 01, in its own way: a machine that is fed one byte after the other.
+// The machine knows what the next byte is for. So a sheet that ends early is simply a machine not yet at its end,
+// and the place of a fault is the number of the byte being fed.
+// It leans on job and outcome.
+
+use crate::job::{term_limit, Job, MOST_RULES, MOST_SEEN, MOST_WIRES};
+use crate::outcome::{Outcome, Refusal, JOB};
+
+const ENDS_EARLY: u8 = 1;
+const COUNT_TOO_HIGH: u8 = 2;
+const NOT_RISING: u8 = 3;
+const ENTRY_TOO_HIGH: u8 = 4;
+const BYTES_OVER: u8 = 5;
+
+/// Every byte is below this, so it limits the pins no further.
+const BYTE_LIMIT: usize = 256;
+
+#[derive(Clone, Copy)]
+enum List {
+    Pins,
+    Seen(usize),
+    Terms,
+}
+
+/// What the next byte is for.
+enum Next {
+    Count(List),
+    Entry(List),
+    RuleCountLow,
+    RuleCountHigh(u8),
+    Nothing,
+}
+
+struct Machine {
+    next: Next,
+    entries_left: usize,
+    rules_left: usize,
+    job: Job,
+}
+
+/// The job of a sheet, or the first fault from the left.
+pub fn read_job(sheet: &[u8]) -> Result<Job, Refusal> {
+    let mut machine =
+        Machine { next: Next::Count(List::Pins), entries_left: 0, rules_left: 0, job: Job::default() };
+    for (place, byte) in sheet.iter().enumerate() {
+        if let Err(code) = machine.feed(*byte) {
+            // A two-byte count is judged at its second byte and named by its first.
+            let back = usize::from(matches!(machine.next, Next::RuleCountHigh(_)));
+            return Err(Refusal { code, place: place - back });
+        }
+    }
+    match machine.next {
+        Next::Nothing => Ok(machine.job),
+        _ => Err(Refusal { code: ENDS_EARLY, place: sheet.len() }),
+    }
+}
+
+/// What a call of the reader must answer.
+pub fn read_outcome(sheet: &[u8]) -> Outcome {
+    match read_job(sheet) {
+        Ok(_) => Outcome::success(0),
+        Err(refusal) => Outcome::refused(refusal, JOB),
+    }
+}
+
+impl Machine {
+    /// Takes one byte, or answers the code of its fault and stays where it is.
+    fn feed(&mut self, byte: u8) -> Result<(), u8> {
+        match self.next {
+            Next::Count(list) => self.begin_list(list, byte as usize),
+            Next::Entry(list) => self.add_entry(list, byte),
+            Next::RuleCountLow => {
+                self.next = Next::RuleCountHigh(byte);
+                Ok(())
+            }
+            Next::RuleCountHigh(low) => self.begin_rules(low as usize + 256 * byte as usize),
+            Next::Nothing => Err(BYTES_OVER),
+        }
+    }
+
+    fn begin_list(&mut self, list: List, count: usize) -> Result<(), u8> {
+        let most = match list {
+            List::Pins => MOST_WIRES,
+            List::Seen(_) => MOST_SEEN,
+            List::Terms => term_limit(self.job.wires()),
+        };
+        if count > most {
+            return Err(COUNT_TOO_HIGH);
+        }
+        if let List::Terms = list {
+            self.job.rules.push(Vec::new());
+        }
+        self.entries_left = count;
+        self.go_on(list);
+        Ok(())
+    }
+
+    fn begin_rules(&mut self, count: usize) -> Result<(), u8> {
+        if count > MOST_RULES {
+            return Err(COUNT_TOO_HIGH);
+        }
+        self.rules_left = count;
+        self.go_on(List::Terms);
+        Ok(())
+    }
+
+    fn add_entry(&mut self, list: List, entry: u8) -> Result<(), u8> {
+        let wires = self.job.wires();
+        let (entries, limit) = match list {
+            List::Pins => (&mut self.job.pins, BYTE_LIMIT),
+            List::Seen(cell) => (&mut self.job.sees[cell], wires),
+            List::Terms => (self.job.rules.last_mut().expect("a rule is begun"), term_limit(wires)),
+        };
+        if entry as usize >= limit {
+            return Err(ENTRY_TOO_HIGH);
+        }
+        if entries.last().is_some_and(|before| entry <= *before) {
+            return Err(NOT_RISING);
+        }
+        entries.push(entry);
+        self.entries_left -= 1;
+        self.go_on(list);
+        Ok(())
+    }
+
+    /// The list goes on with an entry, or else the sheet with what follows that list.
+    fn go_on(&mut self, list: List) {
+        self.next = match list {
+            _ if self.entries_left > 0 => Next::Entry(list),
+            List::Pins => Next::Count(List::Seen(0)),
+            List::Seen(0) => Next::Count(List::Seen(1)),
+            List::Seen(_) => Next::RuleCountLow,
+            List::Terms if self.rules_left == 0 => Next::Nothing,
+            List::Terms => {
+                self.rules_left -= 1;
+                Next::Count(List::Terms)
+            }
+        };
+    }
+}
