@@ -7,13 +7,13 @@ use mathlib.Core.Path.{_≡_, refl, ap}
 use mathlib.Core.List.{List}
 use Prim.Native.Nat.{ℕ, _+_, _*_, _/_, _%_, _^_, _<_, _≤_}
 use native.Mathlib.Omega.{arith}
-use Rattle.sheet.specs.declared.Refusal.{Refusal}
-use Rattle.sheet.specs.declared.Refusal.the-variants.{Ends, TooMany, NotRising, TooHigh, LeftOver}
-use Rattle.sheet.specs.declared.Outcome.{Outcome}
+use Rattle.steps.specs.declared.Refusal.{Refusal}
+use Rattle.steps.specs.declared.Refusal.the-variants.{Ends, TooMany, NotRising, TooHigh, LeftOver}
+use Rattle.steps.specs.declared.Outcome.{Outcome}
 use Rattle.sheet.specs.Job.{Verdict, accepted, rejected}
-use Rattle.sheet.specs.JobSheet.{readJob, longest}
-use Rattle.sheet.specs.Outcome.{codeOf, placeOf, success, refusal, refusedJob, outcomeOf, readOutcome}
-use Rattle.sheet.proofs.Near.{place-small}
+use Rattle.steps.specs.Outcome.{codeOf, placeOf, success, refusal, refusedJob}
+use Rattle.sheet.specs.JobSheet.{readJob, longest, outcomeOf, readOutcome}
+use Rattle.sheet.proofs.Length.{place-small}
 use Rattle.ormsvelg.specs.Packed.{pack, unpack, Packs}
 
 module _ (c s p w : ℕ) (hc : c < 2 ^ 8) (hs : s < 2 ^ 8) (hp : p < 2 ^ 24) where

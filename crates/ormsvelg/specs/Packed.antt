@@ -4,7 +4,7 @@
 --     Packs     the outcome's numbers are small enough
 -- Assumes nothing: these are definitions.
 use Prim.Native.Nat.{ℕ, _+_, _*_, _/_, _%_, _^_, _<_}
-use Rattle.sheet.specs.declared.Outcome.{Outcome}
+use Rattle.steps.specs.declared.Outcome.{Outcome}
 
 -- code in the low 8 bits, then sheet in 8, place in 24, bytes written in 24
 abbrev pub pack : Outcome → ℕ

@@ -1,9 +1,9 @@
 // The C face: functions on numbers and byte slices for the bench's host program, each outcome as one 64-bit number
 // (document 01, "Bench use"). A slice passes as a pointer and a length; a null pointer with length 0 is an empty slice.
 // What each call does is said below; only the packing is of this crate.
-use sheet::Outcome;
+use steps::Outcome;
 ghost use mathlib.Core.Path.{_≡_};
-ghost use Rattle.sheet.specs.Outcome.{readOutcome};
+ghost use Rattle.sheet.specs.JobSheet.{readOutcome};
 ghost use Rattle.ormsvelg.specs.Packed.{pack, Packs};
 
 // The four numbers of an outcome in one.
@@ -22,5 +22,5 @@ fn packed(o: Outcome) -> u64
 pub extern "C" fn ormsvelg_read(job: &[u8]) -> u64
     ensures { λ r. ⌜ r ≡ pack (readOutcome (now (job .entry))) ⌝ }
 {
-    packed(sheet::job::read(job))
+    packed(sheet::read_sheet(job))
 }

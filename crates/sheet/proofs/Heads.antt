@@ -7,15 +7,17 @@ use native.Mathlib.Omega.{arith}
 use borrow.Author.Tests.{leb-true}
 use lib.Dec.{leb}
 use lib.ListN.{length}
-use Rattle.sheet.specs.declared.Refusal.{Refusal}
-use Rattle.sheet.specs.declared.Read.{Read}
-use Rattle.sheet.specs.declared.Read.the-variants.{Refused}
+use Rattle.steps.specs.declared.Refusal.{Refusal}
+use Rattle.steps.specs.declared.Read.{Read}
+use Rattle.steps.specs.declared.Read.the-variants.{Refused}
 use Rattle.sheet.specs.declared.HeadRead.the-variants as headRead
-use Rattle.sheet.specs.Step.{Step, got, refused, next, pick}
+use Rattle.steps.specs.Step.{Step, got, refused, next, pick}
 use Rattle.sheet.specs.Job.{Head}
-use Rattle.sheet.specs.JobSheet.{byte, word, within, count, wordCount, entries, countedMask, head, wireLimit, seenLimit, ruleLimit, pinLimit}
-use Rattle.sheet.specs.Found.{pinsPass, asHead, whyOf}
-use Rattle.sheet.proofs.Entries.{apart, next-inv, got-inj, byte-next, entries-length}
+use Rattle.steps.specs.Bytes.{byte, word, within, count, wordCount, entries}
+use Rattle.sheet.specs.JobSheet.{countedMask, head, wireLimit, seenLimit, ruleLimit, pinLimit}
+use Rattle.steps.specs.Found.{whyOf}
+use Rattle.sheet.specs.JobFound.{pinsPass, asHead}
+use Rattle.steps.proofs.Entries.{apart, next-inv, got-inj, byte-next, entries-length}
 
 -- the value that a step found, where it found one
 abbrev pub valueOf : {A : Type 0} → A → Step A → A

@@ -4,18 +4,20 @@ use mathlib.Core.List.{List, []}
 use Prim.Native.Nat.{ℕ, zero, suc, _+_, _*_, _≤_}
 use native.Mathlib.Omega.{arith}
 use lib.ListN.{length}
-use Rattle.sheet.specs.declared.Refusal.{Refusal}
+use Rattle.steps.specs.declared.Refusal.{Refusal}
 use Rattle.sheet.specs.declared.JobHead.{JobHead}
 use Rattle.sheet.specs.declared.HeadRead.{HeadRead}
 use Rattle.sheet.specs.declared.HeadRead.the-variants as headRead
 use Rattle.sheet.specs.declared.JobRead.{JobRead}
 use Rattle.sheet.specs.declared.JobRead.the-variants as jobRead
-use Rattle.sheet.specs.Step.{Step, got, refused}
+use Rattle.steps.specs.Step.{Step, got, refused}
 use Rattle.sheet.specs.Job.{Head, Verdict, accepted, rejected}
-use Rattle.sheet.specs.Outcome.{success, refusedJob, outcomeOf, readOutcome}
-use Rattle.sheet.specs.JobSheet.{countedMask, rules, end, head, job, readJob, termsOf, wireLimit, ruleLimit}
-use Rattle.sheet.specs.Found.{headOf, asHead, asJob, whyHeadOf, rulesPass, kept, keptRules}
-use Rattle.sheet.proofs.Entries.{next-inv, got-inj}
+use Rattle.steps.specs.Outcome.{success, refusedJob}
+use Rattle.sheet.specs.JobSheet.{outcomeOf, readOutcome}
+use Rattle.steps.specs.Bytes.{end}
+use Rattle.sheet.specs.JobSheet.{countedMask, rules, head, job, readJob, termsOf, wireLimit, ruleLimit}
+use Rattle.sheet.specs.JobFound.{headOf, asHead, asJob, whyHeadOf, rulesPass, kept, keptRules}
+use Rattle.steps.proofs.Entries.{next-inv, got-inj}
 use Rattle.sheet.proofs.Heads.{valueOf, through, through-not, head-facts}
 
 apart-heads : (x : HeadRead) (h : JobHead) (n : ℕ) (w : Refusal) → x ≡ headRead.Got h n → x ≡ headRead.Refused w → ⊥

@@ -13,11 +13,12 @@ use lib.ListN.{length, getD, take, drop}
 use lib.Count.{ones}
 use lib.Pow.{pow-mono}
 use lib.Seq.{sets, sets-eq, drop-cons, take-append-seam}
-use Rattle.sheet.specs.Step.{Step, got, refused}
+use Rattle.steps.specs.Step.{Step, got, refused}
 use Rattle.sheet.specs.Job.{Job, Head, accepted}
-use Rattle.sheet.specs.JobSheet.{entry, entries, maskOf, mask, count, countedMask, wordCount, rules, head, end, job, readJob, verdictOf, termsOf, wireLimit, seenLimit, ruleLimit, pinLimit}
-use Rattle.sheet.specs.Found.{kept, keptRules}
-use Rattle.sheet.proofs.Entries.{next-inv, got-inj, entry-bounds, entry-byte}
+use Rattle.steps.specs.Bytes.{entry, entries, count, wordCount, end}
+use Rattle.sheet.specs.JobSheet.{maskOf, mask, countedMask, rules, head, job, readJob, verdictOf, termsOf, wireLimit, seenLimit, ruleLimit, pinLimit}
+use Rattle.sheet.specs.JobFound.{kept, keptRules}
+use Rattle.steps.proofs.Entries.{next-inv, got-inj, entry-bounds, entry-byte}
 use Rattle.sheet.proofs.Heads.{count-bounds, head-facts}
 use Rattle.sheet.proofs.Jobs.{rules-length}
 use Rattle.sheet.proofs.Ones.{counted-ones}

@@ -1,10 +1,8 @@
-pub mod Steps
-pub mod Entries
 pub mod Masks
 pub mod Rules
 pub mod Heads
 pub mod Jobs
 pub mod Laws
 pub mod Ones
-pub mod Near
+pub mod Length
 pub mod Longest

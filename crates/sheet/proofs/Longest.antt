@@ -11,10 +11,12 @@ use native.Mathlib.Omega.{arith}
 use borrow.Author.Tests.{lt-ltb, le-ltb, le-leb}
 use lib.ListN.{length, getD, length-append, List·getD-append}
 use lib.Seq.{getD-append-add}
-use Rattle.sheet.specs.Step.{Step, got, next}
+use Rattle.steps.specs.Step.{Step, got, next}
 use Rattle.sheet.specs.Job.{Job, Head, accepted}
-use Rattle.sheet.specs.JobSheet.{byte, word, within, count, wordCount, rising, entry, entries, maskOf, mask, countedMask, rules, end, head, job, readJob, longest}
-use Rattle.sheet.proofs.Near.{Alike, near-head, byte-there}
+use Rattle.steps.specs.Bytes.{byte, word, within, count, wordCount, rising, entry, entries, end}
+use Rattle.sheet.specs.JobSheet.{maskOf, mask, countedMask, rules, head, job, readJob, longest}
+use Rattle.steps.proofs.Near.{Alike, byte-there}
+use Rattle.sheet.proofs.Length.{near-head}
 
 -- the numbers from i on, n of them
 upFrom : ℕ → ℕ → List ℕ

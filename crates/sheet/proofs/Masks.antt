@@ -7,9 +7,10 @@ use native.Mathlib.Omega.{arith}
 use lib.Dec.{lit<}
 use lib.Bits.{bitOr, or-shifted-r}
 use mathlib.Core.List.{List}
-use Rattle.sheet.specs.Step.{got, next, Reading}
-use Rattle.sheet.specs.JobSheet.{entry, entries, maskOf, mask}
-use Rattle.sheet.proofs.Entries.{entry-bounds, entries-go, entries-none}
+use Rattle.steps.specs.Step.{got, next, Reading}
+use Rattle.steps.specs.Bytes.{entry, entries}
+use Rattle.sheet.specs.JobSheet.{maskOf, mask}
+use Rattle.steps.proofs.Entries.{entry-bounds, entries-go, entries-none}
 use lib.Pow.{pow-mono, shl-exact}
 
 module _ (b e least : ℕ) (low : b < 2 ^ least) (le : least ≤ e) where

@@ -7,9 +7,10 @@ use native.Mathlib.Numerals.{add-one}
 use native.Mathlib.Omega.{arith}
 use lib.Count.{ones, onesIn, ones-cat}
 use lib.Pow.{pow-pos, pow-add, pow-lt}
-use Rattle.sheet.specs.Step.{got}
-use Rattle.sheet.specs.JobSheet.{entry, entries, maskOf, mask, count, countedMask}
-use Rattle.sheet.proofs.Entries.{next-inv, got-inj, entry-bounds}
+use Rattle.steps.specs.Step.{got}
+use Rattle.steps.specs.Bytes.{entry, entries, count}
+use Rattle.sheet.specs.JobSheet.{maskOf, mask, countedMask}
+use Rattle.steps.proofs.Entries.{next-inv, got-inj, entry-bounds}
 use Rattle.sheet.proofs.Heads.{count-bounds}
 
 twice : (a e : ℕ) → 2 ^ e + a * 2 ^ (e + 1) ≡ (1 + a * 2) * 2 ^ e

@@ -6,11 +6,11 @@ use native.Mathlib.Omega.{arith}
 use native.Mathlib.Numerals.{add-one}
 use lib.ListN.{set}
 use lib.Seq.{sets}
-use Rattle.sheet.specs.declared.Refusal.{Refusal}
-use Rattle.sheet.specs.Step.{got, refused, next, Reading}
+use Rattle.steps.specs.declared.Refusal.{Refusal}
+use Rattle.steps.specs.Step.{got, refused, next, Reading}
 use Rattle.sheet.specs.JobSheet.{countedMask, rules}
-use Rattle.sheet.specs.Found.{rulesPass, kept}
-use Rattle.sheet.proofs.Entries.{assoc}
+use Rattle.sheet.specs.JobFound.{rulesPass, kept}
+use Rattle.steps.proofs.Entries.{assoc}
 
 -- what is left of n rules, of which nothing but the place is told
 abbrev pub rulesFrom : (left terms n : ℕ) → Reading ℕ

@@ -2,9 +2,10 @@
 use mathlib.Core.Path.{_≡_, refl}
 use mathlib.Core.List.{List, [], _∷_, map}
 use Prim.Native.Nat.{ℕ}
-use Rattle.sheet.specs.declared.Refusal.the-variants.{Ends, TooMany, NotRising, TooHigh, LeftOver}
+use Rattle.steps.specs.declared.Refusal.the-variants.{Ends, TooMany, NotRising, TooHigh, LeftOver}
 use Rattle.sheet.specs.Job.{Verdict, accepted, rejected}
-use Rattle.sheet.specs.JobSheet.{byte, word, within, count, wordCount, rising, entry, entries, maskOf, mask, countedMask, rules, end, head, job, readJob}
+use Rattle.steps.specs.Bytes.{byte, word, within, count, wordCount, rising, entry, entries, end}
+use Rattle.sheet.specs.JobSheet.{maskOf, mask, countedMask, rules, head, job, readJob}
 
 -- J1 to J4
 pub j1 : List ℕ

@@ -1,7 +1,7 @@
 -- A job, and what reading a sheet comes to. Assumes nothing: these are definitions.
 use Prim.Native.Nat.{ℕ}
 use mathlib.Core.List.{List}
-use Rattle.sheet.specs.declared.Refusal.{Refusal}
+use Rattle.steps.specs.declared.Refusal.{Refusal}
 
 -- the wires' pins, by position; the wires that each cell sees, position p with weight 2 ^ p; the rules, each its terms, term t with weight 2 ^ t
 pub record Job : Type 0 where

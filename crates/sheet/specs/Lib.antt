@@ -1,6 +1,4 @@
-pub mod Step
 pub mod Job
 pub mod JobSheet
-pub mod Outcome
-pub mod Found
+pub mod JobFound
 pub mod Examples

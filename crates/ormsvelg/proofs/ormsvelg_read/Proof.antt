@@ -6,14 +6,14 @@ use Rattle.ormsvelg.proofs.Packing.{read-packs}
 use Rattle.ormsvelg.proofs.ormsvelg_read.Statement.{statement}
 use Rattle.ormsvelg.proofs.ormsvelg_read.Tie as tie
 
-read-requires : tie.Need-read-requires
-read-requires c κs = search needs
+read-sheet-requires : tie.Need-read-sheet-requires
+read-sheet-requires c κs = search needs
 
 packed-requires : tie.Need-packed-requires
-packed-requires c κs = rw (c .read .ensures) (read-packs _)
+packed-requires c κs = rw (c .read-sheet .ensures) (read-packs _)
 
 returns : tie.Need-returns
-returns c = c .packed .ensures ∙ ap pack (c .before .read .ensures)
+returns c = c .packed .ensures ∙ ap pack (c .before .read-sheet .ensures)
 
 pub ormsvelg-read-spec : {M : Type 1} → statement M
-ormsvelg-read-spec = tie.close (tie.spec read-requires packed-requires returns)
+ormsvelg-read-spec = tie.close (tie.spec read-sheet-requires packed-requires returns)

@@ -1,0 +1,138 @@
+-- How long a job sheet is: one that is accepted is not long, and of a longer one the first bytes decide.
+--     job-near           reading a job looks at no more than 7,458 bytes
+--     accepted-short     an accepted sheet has at most 7,457 bytes
+--     first-decide       the first 7,458 bytes decide
+--     place-small        every place that a refusal tells is at most 7,458
+-- Assumes nothing.
+use mathlib.Core.Path.{_≡_, refl, sym, ap, _∙_}
+use mathlib.Core.Logic.{by-cases}
+use mathlib.Core.List.{List, [], _∷_}
+use Prim.Native.Nat.{ℕ, zero, suc, _+_, _*_, _≤_, _<_}
+use native.Mathlib.Nat.{mul-le-mul}
+use native.Mathlib.Decide.{decLe}
+use native.Mathlib.Omega.{arith}
+use lib.ListN.{length, take}
+use lib.Seq.{take-all}
+use Rattle.steps.specs.declared.Refusal.{Refusal}
+use Rattle.steps.specs.Step.{Step, got, refused, next}
+use Rattle.steps.specs.Bytes.{count, wordCount, entries, end}
+use Rattle.steps.specs.Outcome.{placeOf}
+use Rattle.steps.proofs.Entries.{next-inv}
+use Rattle.steps.proofs.Near.{Near, near-then, near-more, near-give, near-count, near-word-count, near-entries, near-end, end-there, cut-alike}
+use Rattle.sheet.specs.Job.{Job, Head, Verdict, accepted, rejected}
+use Rattle.sheet.specs.JobSheet.{maskOf, mask, countedMask, rules, head, job, readJob, verdictOf, termsOf, wireLimit, seenLimit, ruleLimit, pinLimit, longest}
+use Rattle.sheet.proofs.Heads.{count-bounds, head-facts}
+use Rattle.sheet.proofs.Laws.{accepted-inv}
+
+near-mask : (n limit at : ℕ) → Near n at (λ s. mask n limit s at)
+unfolding mask
+near-mask n limit at =
+    near-more (n + 0) n at (λ s. mask n limit s at) (omega arith)
+    (near-then n 0 at (λ s. entries n limit 0 s at) (λ es q s. got (maskOf es) q) (near-entries n limit 0 at) (λ s es q g. near-give q (maskOf es)))
+
+near-counted : (most limit at : ℕ) → Near (1 + most) at (λ s. countedMask most limit s at)
+unfolding countedMask
+near-counted most limit at =
+    near-then 1 most at (λ s. count most s at) (λ n m s. mask n limit s m) (near-count most at)
+    (λ s n m h. near-more n most m (λ s. mask n limit s m) (count-bounds most s at n m h .0) (near-mask n limit m))
+
+near-rules : (n terms at : ℕ) → Near (n * (1 + terms)) at (λ s. rules n terms s at)
+unfolding rules
+near-rules zero terms at = near-more 0 (0 * (1 + terms)) at (λ s. rules 0 terms s at) (omega arith) (near-give at [])
+near-rules (suc n) terms at =
+    near-more (1 + terms + (n * (1 + terms) + 0)) (suc n * (1 + terms)) at (λ s. rules (suc n) terms s at) (omega arith)
+    (near-then (1 + terms) (n * (1 + terms) + 0) at (λ s. countedMask terms terms s at) (λ r m s. next (rules n terms s m) (λ rs q. got (r ∷ rs) q)) (near-counted terms terms at)
+    (λ s r m h.
+    near-then (n * (1 + terms)) 0 m (λ s. rules n terms s m) (λ rs q s. got (r ∷ rs) q) (near-rules n terms m) (λ s rs q g. near-give q (r ∷ rs))))
+
+abbrev jobOf : Head → List ℕ → Job
+jobOf h rs = record { pins = h .pins; seesA = h .seesA; seesB = h .seesB; rules = rs }
+
+-- ---- the whole sheet
+
+abbrev headOf : (n a b k : ℕ) → List ℕ → Head
+headOf n a b k pins = record { wires = n; pins = pins; seesA = a; seesB = b; count = k }
+
+module _ (n : ℕ) (pins : List ℕ) where
+  near-after-b : (a b at : ℕ) → Near 2 at (λ s. next (wordCount ruleLimit s at) (λ k q. got (headOf n a b k pins) q))
+  near-after-b a b at =
+      near-then 2 0 at (λ s. wordCount ruleLimit s at) (λ k q s. got (headOf n a b k pins) q) (near-word-count ruleLimit at)
+      (λ s k q h. near-give q (headOf n a b k pins))
+
+  near-after-a : (a at : ℕ)
+      → Near 11 at (λ s. next (countedMask seenLimit n s at) (λ b m. next (wordCount ruleLimit s m) (λ k q. got (headOf n a b k pins) q)))
+  near-after-a a at =
+      near-then 9 2 at (λ s. countedMask seenLimit n s at) (λ b m s. next (wordCount ruleLimit s m) (λ k q. got (headOf n a b k pins) q))
+      (near-counted seenLimit n at)
+      (λ s b m h. near-after-b a b m)
+
+  near-after-pins : (at : ℕ)
+      → Near 20 at (λ s. next (countedMask seenLimit n s at) (λ a l. next (countedMask seenLimit n s l) (λ b m. next (wordCount ruleLimit s m) (λ k q. got (headOf n a b k pins) q))))
+  near-after-pins at =
+      near-then 9 11 at (λ s. countedMask seenLimit n s at)
+      (λ a l s. next (countedMask seenLimit n s l) (λ b m. next (wordCount ruleLimit s m) (λ k q. got (headOf n a b k pins) q)))
+      (near-counted seenLimit n at)
+      (λ s a l h. near-after-a a l)
+
+pub near-head : Near 33 0 (λ s. head s 0)
+unfolding head
+near-head =
+    near-then 1 32 0 (λ s. count wireLimit s 0)
+    (λ n p s. next (entries n pinLimit 0 s p) (λ pins q. next (countedMask seenLimit n s q) (λ a l. next (countedMask seenLimit n s l) (λ b m. next (wordCount ruleLimit s m) (λ k q. got (headOf n a b k pins) q)))))
+    (near-count wireLimit 0)
+    (λ s n p h.
+    near-then 12 20 p (λ s. entries n pinLimit 0 s p)
+    (λ pins q s. next (countedMask seenLimit n s q) (λ a l. next (countedMask seenLimit n s l) (λ b m. next (wordCount ruleLimit s m) (λ k q. got (headOf n a b k pins) q))))
+    (near-more n 12 p (λ s. entries n pinLimit 0 s p) (count-bounds wireLimit s 0 n p h .0) (near-entries n pinLimit 0 p))
+    (λ s pins q g. near-after-pins n pins q))
+
+-- the most bytes that the rules of a job take
+rules-most : (n terms : ℕ) → n ≤ ruleLimit → terms ≤ 28 → n * (1 + terms) ≤ 7424
+rules-most n terms ln lt = let more : 1 + terms ≤ 29 = omega arith in mul-le-mul ln more
+
+near-head-rules : (h : Head) (at : ℕ) → h .wires ≤ wireLimit → h .count ≤ ruleLimit → Near 7424 at (λ s. rules (h .count) (termsOf (h .wires)) s at)
+near-head-rules h at lw lc =
+    near-more (h .count * (1 + termsOf (h .wires))) 7424 at (λ s. rules (h .count) (termsOf (h .wires)) s at)
+    (rules-most (h .count) (termsOf (h .wires)) lc (omega arith))
+    (near-rules (h .count) (termsOf (h .wires)) at)
+
+pub job-near : Near (longest + 1) 0 (λ s. job s 0)
+unfolding job
+job-near =
+    near-then 33 7425 0 (λ s. head s 0)
+    (λ h at s. next (rules (h .count) (termsOf (h .wires)) s at) (λ rs q. next (end s q) (λ z l. got (jobOf h rs) l)))
+    near-head
+    (λ s h at e.
+    let f = head-facts s h at e in
+    near-then 7424 1 at (λ s. rules (h .count) (termsOf (h .wires)) s at) (λ rs q s. next (end s q) (λ z l. got (jobOf h rs) l))
+    (near-head-rules h at (f .0) (f .1))
+    (λ s rs q g. near-then 1 0 q (λ s. end s q) (λ z l s. got (jobOf h rs) l) (near-end q) (λ s z l k. near-give l (jobOf h rs))))
+
+-- ---- what follows for whole sheets
+
+refused-inv : (t : Step Job) (w : Refusal) → verdictOf t ≡ rejected w → t ≡ refused w
+refused-inv (got j m) w h = let z : _≡_ {A = ℕ} 0 1 = cc in let no : ⊥ = omega arith in absurd no
+refused-inv (refused v) w h = cc
+
+pub place-small : (s : List ℕ) (w : Refusal) → readJob s ≡ rejected w → placeOf w ≤ longest + 1
+unfolding readJob
+place-small s w h = job-near .faulty s w (refused-inv (job s 0) w h)
+
+pub accepted-short : (s : List ℕ) (j : Job) → readJob s ≡ accepted j → length s ≤ longest
+unfolding readJob job
+accepted-short s j ok =
+    let a = accepted-inv (job s 0) j ok in
+    let i = next-inv (head s 0) _ j (a .0) (a .1) in
+    let r = next-inv (rules (i .0 .count) (termsOf (i .0 .wires)) s (i .1)) _ j (a .0) (i .3) in
+    let e = next-inv (end s (r .1)) _ j (a .0) (r .3) in
+    let f = head-facts s (i .0) (i .1) (i .2) in
+    let to-rules : i .1 ≤ 33 = near-head .found s (i .0) (i .1) (i .2) in
+    let to-end : r .1 ≤ i .1 + 7424 = near-head-rules (i .0) (i .1) (f .0) (f .1) .found s (r .0) (r .1) (r .2) in
+    omega (arith, end-there s (r .1) (e .0) (e .1) (e .2))
+
+pub first-decide : (s : List ℕ) → readJob (take (longest + 1) s) ≡ readJob s
+unfolding readJob
+first-decide s =
+    by-cases (decLe (longest + 1) (length s))
+    (λ l. ap verdictOf (sym (job-near .alike (longest + 1) s (take (longest + 1) s) (cut-alike (longest + 1) s l) (omega arith))))
+    (λ g. ap readJob (take-all (longest + 1) s (omega arith)))

@@ -1,0 +1,21 @@
+-- `steps::why` meets its contract. Assumes nothing.
+use mathlib.Core.Path.{ap, sym}
+use Rattle.steps.specs.Found.{whyOf}
+use borrow.Author.Needs.{needs}
+use Rattle.steps.proofs.why.Statement.{statement}
+use Rattle.steps.proofs.why.Tie as tie
+
+enum-known-x : tie.Need-enum-known-x
+enum-known-x c = search needs
+
+enum-known-x-2 : tie.Need-enum-known-x-2
+enum-known-x-2 c = search needs
+
+returns : tie.Need-returns
+returns c = ap whyOf (sym (c .before .x .given .1))
+
+returns-2 : tie.Need-returns-2
+returns-2 c = search needs
+
+pub why-spec : {M : Type 1} → statement M
+why-spec = tie.close (tie.spec enum-known-x enum-known-x-2 returns returns-2)

@@ -1,0 +1,4 @@
+pub mod Step
+pub mod Outcome
+pub mod Bytes
+pub mod Found
