@@ -1,10 +1,10 @@
 -- Outcomes (document 01, "Outcome numbers").
---     codeOf, placeOf    the paper's number and place of each refusal of a job sheet
+--     codeOf, answerCodeOf, placeOf    the paper's number and place of each refusal, of a job sheet and of an answer sheet
 --     success, refusal   the two kinds of outcome
 -- Assumes nothing: these are definitions.
 use Prim.Native.Nat.{ℕ}
 use Rattle.steps.specs.declared.Refusal.{Refusal}
-use Rattle.steps.specs.declared.Refusal.the-variants.{Ends, TooMany, NotRising, TooHigh, LeftOver}
+use Rattle.steps.specs.declared.Refusal.the-variants.{Ends, TooMany, NotRising, TooHigh, LeftOver, OtherKind, NotABit, OutOfRange}
 use Rattle.steps.specs.declared.Outcome.{Outcome}
 
 -- 1: job ends where a byte is called for. 2: count above its limit. 3: entry not above the one before.
@@ -15,6 +15,22 @@ codeOf (TooMany place) = 2
 codeOf (NotRising place) = 3
 codeOf (TooHigh place) = 4
 codeOf (LeftOver place) = 5
+-- 8: answer count that, after the counts before it, is of neither permitted kind. 9: table byte above 1.
+-- 11: claim not below 2R, or combination not below 2^n. No job is refused so.
+codeOf (OtherKind place) = 8
+codeOf (NotABit place) = 9
+codeOf (OutOfRange place) = 11
+
+-- 7: answer ends early, or has bytes over.
+abbrev pub answerCodeOf : Refusal → ℕ
+answerCodeOf (Ends place) = 7
+answerCodeOf (TooMany place) = 2
+answerCodeOf (NotRising place) = 3
+answerCodeOf (TooHigh place) = 4
+answerCodeOf (LeftOver place) = 7
+answerCodeOf (OtherKind place) = 8
+answerCodeOf (NotABit place) = 9
+answerCodeOf (OutOfRange place) = 11
 
 abbrev pub placeOf : Refusal → ℕ
 placeOf (Ends place) = place
@@ -22,6 +38,9 @@ placeOf (TooMany place) = place
 placeOf (NotRising place) = place
 placeOf (TooHigh place) = place
 placeOf (LeftOver place) = place
+placeOf (OtherKind place) = place
+placeOf (NotABit place) = place
+placeOf (OutOfRange place) = place
 
 -- An outcome is four numbers: code, sheet, place, bytes written. Successes have sheet and place 0.
 abbrev pub success : (code written : ℕ) → Outcome
@@ -34,3 +53,7 @@ refusal c s p = record { code = c; sheet = s; place = p; written = 0 }
 -- Codes 1 to 5 name the sheet being read.
 abbrev pub refusedJob : (sheet : ℕ) → Refusal → Outcome
 refusedJob s w = refusal (codeOf w) s (placeOf w)
+
+-- Codes 7 to 13 name sheet 2.
+abbrev pub refusedAnswer : Refusal → Outcome
+refusedAnswer w = refusal (answerCodeOf w) 2 (placeOf w)

@@ -3,17 +3,21 @@
 // the next place, or the refusal, which its caller hands up. The definitions stand in specs/Bytes and specs/Outcome.
 // Leans on nothing.
 ghost use mathlib.Core.Path.{_≡_};
-ghost use Rattle.steps.specs.Outcome.{codeOf, placeOf, success, refusal, refusedJob};
+ghost use Rattle.steps.specs.Outcome.{codeOf, answerCodeOf, placeOf, success, refusal, refusedJob, refusedAnswer};
 ghost use Rattle.steps.specs.Bytes.{byte, word, count, wordCount, entry, end};
 ghost use Rattle.steps.specs.Found.{asRead, withinOf, whyOf};
 
-// Why a sheet is refused, with the place: document 01, codes 1 to 5 in this order.
+// Why a sheet is refused, with the place. The first five are a job's, codes 1 to 5 in this order; an answer is refused by
+// its end, bytes left over, and the last three.
 pub enum Refusal {
     Ends(usize),
     TooMany(usize),
     NotRising(usize),
     TooHigh(usize),
     LeftOver(usize),
+    OtherKind(usize),
+    NotABit(usize),
+    OutOfRange(usize),
 }
 
 // Document 01's number of a refusal of a job sheet, and its place.
@@ -26,6 +30,25 @@ pub fn code_of(w: Refusal) -> u8
         Refusal::NotRising(_) => 3,
         Refusal::TooHigh(_) => 4,
         Refusal::LeftOver(_) => 5,
+        Refusal::OtherKind(_) => 8,
+        Refusal::NotABit(_) => 9,
+        Refusal::OutOfRange(_) => 11,
+    }
+}
+
+// And of an answer sheet.
+pub fn answer_code_of(w: Refusal) -> u8
+    ensures { λ r. ⌜ r ≡ answerCodeOf w ⌝ }
+{
+    match w {
+        Refusal::Ends(_) => 7,
+        Refusal::TooMany(_) => 2,
+        Refusal::NotRising(_) => 3,
+        Refusal::TooHigh(_) => 4,
+        Refusal::LeftOver(_) => 7,
+        Refusal::OtherKind(_) => 8,
+        Refusal::NotABit(_) => 9,
+        Refusal::OutOfRange(_) => 11,
     }
 }
 
@@ -38,6 +61,9 @@ pub fn place_of(w: Refusal) -> usize
         Refusal::NotRising(at) => at,
         Refusal::TooHigh(at) => at,
         Refusal::LeftOver(at) => at,
+        Refusal::OtherKind(at) => at,
+        Refusal::NotABit(at) => at,
+        Refusal::OutOfRange(at) => at,
     }
 }
 
@@ -76,6 +102,13 @@ pub fn refused_job(sheet: u8, w: Refusal) -> Outcome
     ensures { λ r. ⌜ r ≡ refusedJob sheet w ⌝ }
 {
     refused(code_of(w), sheet, place_of(w))
+}
+
+// The outcome of an answer sheet that was refused.
+pub fn refused_answer(w: Refusal) -> Outcome
+    ensures { λ r. ⌜ r ≡ refusedAnswer w ⌝ }
+{
+    refused(answer_code_of(w), 2, place_of(w))
 }
 
 // What a reading step finds: a number with the next place, or the refusal.

@@ -9,6 +9,12 @@ ghost use lib.Count.{ones};
 ghost use Rattle.wires.specs.Wires.{shown};
 ghost use Rattle.wires.specs.Terms.{Setting, Truths, Meets};
 
+// Claim 2r says that row r holds 0, claim 2r + 1 that it holds 1; rows of A come first, then rows of B.
+pub struct Claim(pub u16);
+
+// A combination of the wires' values. Claim and combination are kept apart in every signature that has both.
+pub struct Combination(pub u16);
+
 // How many rows a cell has that sees the wires of `seen`: two to their number.
 pub fn row_count(seen: u32) -> usize
     ensures { λ r. ⌜ r ≡ 2 ^ ones seen ⌝ }

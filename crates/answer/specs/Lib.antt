@@ -1,0 +1,4 @@
+pub mod Answer
+pub mod AnswerSheet
+pub mod AnswerFound
+pub mod Written
