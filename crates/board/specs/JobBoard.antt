@@ -1,0 +1,47 @@
+-- The board of a job: what its sheet means (document 01, "Numbers used").
+--     trueb, holdsb, breaksb     a term is true, a rule holds, some rule is broken, as tests that compute
+--     boardOf                    the board of n wires, two seen sets and a list of rules
+--     jobBoard                   the board of a job
+-- That the tests decide what `Terms` of `wires` says is proved in proofs/Rules. Assumes nothing: these are definitions.
+use mathlib.Core.Bool.{Bool, false, not, _&&_, _||_}
+use mathlib.Core.List.{List, [], _∷_}
+use Prim.Native.Nat.{ℕ, zero, suc, _+_, _*_, _-_, _/_, _%_, _^_}
+use lib.Dec.{eqb}
+use lib.Count.{ones}
+use lib.ListN.{length}
+use Rattle.wires.specs.Wires.{wire, shown}
+use Rattle.wires.specs.Terms.{value}
+use Rattle.sheet.specs.Job.{Job}
+use Rattle.board.specs.Board.{Board}
+
+-- Term 2v is plain and 2v+1 negated: it is true where its variable has the value 1 or 0
+abbrev pub trueb : (n a x y t : ℕ) → Bool
+trueb n a x y t = eqb (value n a x y (t / 2)) (1 - t % 2)
+
+-- some number below k passes
+unfoldable pub anyBelow : (ℕ → Bool) → ℕ → Bool
+anyBelow p zero = false
+anyBelow p (suc k) = anyBelow p k || p k
+
+-- A rule is a set of terms, one bit each, and holds if one of its terms does.
+unfoldable pub holdsb : (n a x y rule : ℕ) → Bool
+holdsb n a x y rule = anyBelow (λ t. eqb (wire rule t) 1 && trueb n a x y t) (2 * n + 4)
+
+-- some rule is broken where the wires have the combination a, cell A has x and cell B has y
+unfoldable pub breaksb : (n : ℕ) → List ℕ → (a x y : ℕ) → Bool
+breaksb n [] a x y = false
+breaksb n (rule ∷ rules) a x y = not (holdsb n a x y rule) || breaksb n rules a x y
+
+abbrev pub boardOf : (n seesA seesB : ℕ) → List ℕ → Board
+boardOf n seesA seesB rules =
+    record {
+      rowsA = 2 ^ ones seesA;
+      rowsB = 2 ^ ones seesB;
+      combinations = 2 ^ n;
+      showA = shown n seesA;
+      showB = shown n seesB;
+      breaks = breaksb n rules;
+    }
+
+abbrev pub jobBoard : Job → Board
+jobBoard j = boardOf (length (j .pins)) (j .seesA) (j .seesB) (j .rules)

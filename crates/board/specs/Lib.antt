@@ -1,0 +1,6 @@
+pub mod Board
+pub mod Tables
+pub mod Walk
+pub mod Tests
+pub mod JobBoard
+pub mod Check
