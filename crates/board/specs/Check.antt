@@ -37,8 +37,12 @@ module _ (B : Board) where
   abbrev pub faultAt : List ℕ → ℕ → Bool
   faultAt T a = B .breaks a (held T (B .showA a)) (held T (atB B a))
 
+  -- 10: tables break a rule, at the lowest such combination. 20: tables
+  abbrev pub tablesAt : ℕ → Outcome
+  tablesAt m = pick (ltb m (B .combinations)) (refusal 10 2 m) (success 20 0)
+
   unfoldable pub judgeTables : List ℕ → Outcome
-  judgeTables T = (λ m. pick (ltb m (B .combinations)) (refusal 10 2 m) (success 20 0)) (lowest (faultAt T) (B .combinations))
+  judgeTables T = tablesAt (lowest (faultAt T) (B .combinations))
 
   -- the entry after entry i; after the last comes the first
   abbrev pub nextOf : List Entry → ℕ → ℕ
@@ -47,11 +51,14 @@ module _ (B : Board) where
   abbrev pub stepAt : List Entry → ℕ → Bool
   stepAt es i = stepb B (entry es i .says) (entry es (nextOf es i) .says) (entry es i .by)
 
-  abbrev pub closing : List Entry → Outcome
-  closing es = pick (amongb (opposite (entry es 0 .says)) es) (success 21 0) (refusal 13 2 0)
+  -- 12: a step does not hold, at the lowest such entry's number, from 0. 13: opposite of the first claim is absent. 21: walk
+  abbrev pub walkAt : List Entry → ℕ → Outcome
+  walkAt es m =
+      pick (ltb m (length es)) (refusal 12 2 m)
+      (pick (amongb (opposite (entry es 0 .says)) es) (success 21 0) (refusal 13 2 0))
 
   unfoldable pub judgeWalk : List Entry → Outcome
-  judgeWalk es = (λ m. pick (ltb m (length es)) (refusal 12 2 m) (closing es)) (lowest (λ i. not (stepAt es i)) (length es))
+  judgeWalk es = walkAt es (lowest (λ i. not (stepAt es i)) (length es))
 
   abbrev pub judge : AnswerVerdict → Outcome
   judge (answered (tables xs ys)) = judgeTables (xs ++ ys)

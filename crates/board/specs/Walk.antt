@@ -43,6 +43,17 @@ module _ (B : Board) where
   Stands [] = ⊥
   Stands (e ∷ es) = Goes (e ∷ es) (e .says) × Among (opposite (e .says)) (e ∷ es)
 
+  -- some steps lead from L to M
+  pub record Reaches (L M : ℕ) : Type 0 where
+    pub entries : List Entry
+    pub begins : start entries M ≡ L
+    pub goes : Goes entries M
+
+  -- by at most n of them
+  pub record Within (n L M : ℕ) : Type 0 where
+    pub reaches : Reaches L M
+    pub short : length (reaches .entries) ≤ n
+
   -- the same by numbers, as a loop tests it: the entries of a walk are 0 to length w - 1
   pub record StandsAt (w : List Entry) : Type 0 where
     pub some : 0 < length w
