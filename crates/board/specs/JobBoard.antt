@@ -2,16 +2,19 @@
 --     trueb, holdsb, breaksb     a term is true, a rule holds, some rule is broken, as tests that compute
 --     boardOf                    the board of n wires, two seen sets and a list of rules
 --     jobBoard                   the board of a job
+--     headBoard, Sized           the board of a job in numbers, and what is known of these
 -- That the tests decide what `Terms` of `wires` says is proved in proofs/Rules. Assumes nothing: these are definitions.
 use mathlib.Core.Bool.{Bool, false, not, _&&_, _||_}
 use mathlib.Core.List.{List, [], _∷_}
-use Prim.Native.Nat.{ℕ, zero, suc, _+_, _*_, _-_, _/_, _%_, _^_}
+use Prim.Native.Nat.{ℕ, zero, suc, _+_, _*_, _-_, _/_, _%_, _^_, _<_, _≤_}
 use lib.Dec.{eqb}
 use lib.Count.{ones}
-use lib.ListN.{length}
+use lib.ListN.{length, take}
 use Rattle.wires.specs.Wires.{wire, shown}
 use Rattle.wires.specs.Terms.{value}
+use Rattle.sheet.specs.declared.JobHead.{JobHead}
 use Rattle.sheet.specs.Job.{Job}
+use Rattle.sheet.specs.JobSheet.{wireLimit, seenLimit}
 use Rattle.board.specs.Board.{Board}
 
 -- Term 2v is plain and 2v+1 negated: it is true where its variable has the value 1 or 0
@@ -45,3 +48,15 @@ boardOf n seesA seesB rules =
 
 abbrev pub jobBoard : Job → Board
 jobBoard j = boardOf (length (j .pins)) (j .seesA) (j .seesB) (j .rules)
+
+-- a job in numbers, with its rules at the front of a list
+abbrev pub headBoard : JobHead → List ℕ → Board
+headBoard h rules = boardOf (h .wires) (h .«sees_a») (h .«sees_b») (take (h .rules) rules)
+
+pub record Sized (h : JobHead) (rules : List ℕ) : Type 0 where
+  pub wires : h .wires ≤ wireLimit
+  pub count : h .rules ≤ length rules
+  pub maskA : h .«sees_a» < 2 ^ h .wires
+  pub maskB : h .«sees_b» < 2 ^ h .wires
+  pub seesA : ones (h .«sees_a») ≤ seenLimit
+  pub seesB : ones (h .«sees_b») ≤ seenLimit

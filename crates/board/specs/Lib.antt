@@ -4,3 +4,4 @@ pub mod Walk
 pub mod Tests
 pub mod JobBoard
 pub mod Check
+pub mod Places

@@ -14,7 +14,8 @@ use lib.Pow.{pow-add}
 use Rattle.wires.specs.Wires.{wire}
 use Rattle.wires.specs.Terms.{Setting, value}
 use Rattle.wires.proofs.Digits.{low-digit, wire-low, wire-high, wire-lt, wire-and, wire-or, wire-zero, wire-none, wire-above, some-wire}
-use Rattle.faults.specs.Table.{bit, Breaks, Faults, Marked, Cleared}
+use Rattle.wires.specs.Terms.{Breaks}
+use Rattle.faults.specs.Table.{bit, Faults, Marked, Cleared}
 use Rattle.faults.specs.Cubes.{Evens, Arranged, Part, Cube, at, Filled}
 use Rattle.faults.proofs.Parts.{same}
 use Rattle.faults.proofs.Cubed.{last-is}

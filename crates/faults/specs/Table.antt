@@ -8,19 +8,11 @@ use mathlib.Core.List.{List}
 use Prim.Native.Nat.{ℕ, _+_, _*_, _/_, _%_, _<_}
 use lib.ListN.{length, getD}
 use Rattle.wires.specs.Wires.{wire}
-use Rattle.wires.specs.Terms.{Setting, Holds}
+use Rattle.wires.specs.Terms.{Setting, Breaks, Fault}
 
 -- the digit for a, x and y
 abbrev pub bit : List ℕ → ℕ → ℕ → ℕ → ℕ
 bit table a x y = wire (getD table (a / 16) 0) (4 * (a % 16) + 2 * x + y)
-
--- the rule is broken there: no term of it is true
-abbrev pub Breaks : ℕ → ℕ → ℕ → ℕ → ℕ → Type 0
-Breaks n a x y rule = Holds n a x y rule → ⊥
-
--- one of the first `count` rules is broken there
-abbrev pub Fault : ℕ → List ℕ → ℕ → ℕ → ℕ → ℕ → Type 0
-Fault n rules count a x y = (i : ℕ) × (i < count) × Breaks n a x y (getD rules i 0)
 
 -- the table has 1 exactly where one of the first `count` rules is broken
 pub record Faults (n : ℕ) (rules : List ℕ) (count : ℕ) (table : List ℕ) : Type 0 where

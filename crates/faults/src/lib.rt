@@ -136,8 +136,7 @@ pub fn clear(end: usize, table: &mut [u64])
 }
 
 // The table of the faults of a board of `n` wires under the first `count` rules.
-#[no_mangle]
-pub extern "C" fn fill_faults(n: u32, rules: &[u32], count: usize, table: &mut [u64; 1024])
+pub fn fill_faults(n: u32, rules: &[u32], count: usize, table: &mut [u64; 1024])
     requires { ⌜ n ≤ 14 ⌝ }
     requires { ⌜ count ≤ length (now rules) ⌝ }
     ensures { λ _. ⌜ Faults n (now (rules .entry)) count (now (table .exit)) ⌝ }
@@ -152,8 +151,7 @@ pub extern "C" fn fill_faults(n: u32, rules: &[u32], count: usize, table: &mut [
 }
 
 // Whether some rule is broken where the wires have the combination `a`, cell A has `x` and cell B has `y`.
-#[no_mangle]
-pub extern "C" fn fault(table: &[u64; 1024], a: u32, x: u32, y: u32) -> bool
+pub fn fault(table: &[u64; 1024], a: u32, x: u32, y: u32) -> bool
     requires { ⌜ a < 2 ^ 14 ⌝ }
     requires { ⌜ x < 2 ⌝ }
     requires { ⌜ y < 2 ⌝ }

@@ -3,6 +3,7 @@
 --     value     the value of a variable
 --     IsTrue    a term is true
 --     Holds     a rule holds
+--     Fault     some rule is broken
 --     Truths    a mask is the set of the true terms
 --     Meets     a rule has a term in a set
 -- Assumes nothing.
@@ -10,7 +11,9 @@ use mathlib.Core.Path.{_≡_}
 use mathlib.Core.Bool.{Bool, true, false}
 use mathlib.Core.Logic.{_⊎_, _↔_}
 use Prim.Native.Nat.{ℕ, _+_, _*_, _/_, _%_, _^_, _<_, _≤_}
+use mathlib.Core.List.{List}
 use lib.Dec.{ltb, eqb}
+use lib.ListN.{getD}
 use Rattle.wires.specs.Wires.{wire}
 
 -- a combination a of n wires, and the values x of cell A and y of cell B. The 2n + 4 terms of 14 wires just fit a mask of 32 bits.
@@ -35,6 +38,14 @@ IsTrue n a x y t = ((t % 2 ≡ 0) × (value n a x y (t / 2) ≡ 1)) ⊎ ((t % 2 
 -- A rule is a set of terms, one bit each, and holds if one of its terms does
 abbrev pub Holds : ℕ → ℕ → ℕ → ℕ → ℕ → Type 0
 Holds n a x y rule = (t : ℕ) × (t < 2 * n + 4) × (wire rule t ≡ 1) × IsTrue n a x y t
+
+-- the rule is broken: no term of it is true
+abbrev pub Breaks : ℕ → ℕ → ℕ → ℕ → ℕ → Type 0
+Breaks n a x y rule = Holds n a x y rule → ⊥
+
+-- one of the first `count` rules is broken
+abbrev pub Fault : ℕ → List ℕ → ℕ → ℕ → ℕ → ℕ → Type 0
+Fault n rules count a x y = (i : ℕ) × (i < count) × Breaks n a x y (getD rules i 0)
 
 -- r is the set of the true terms, of the 2n + 4 that there are
 pub record Truths (n a x y r : ℕ) : Type 0 where

@@ -1,0 +1,65 @@
+-- Tables and walks as they stand in an answer sheet: which bytes the checker looks at.
+--     wordAt                     two bytes, low byte first
+--     claimIn, combinationIn     a walk's entry i
+--     faultIn                    with A and B set to the table bytes of the rows that a combination shows, some rule is broken
+--     stepIn                     the step of entry i holds
+--     walkIn                     the judgement of a walk of k entries
+--     TablesIn, WalkIn           what is known of a sheet of tables, and of a walk of k entries
+-- Assumes nothing: these are definitions.
+use mathlib.Core.Bool.{Bool, not}
+use mathlib.Core.List.{List}
+use Prim.Native.Nat.{ℕ, _+_, _*_, _^_, _<_, _≤_}
+use lib.Count.{ones}
+use lib.Dec.{ltb, eqb}
+use lib.ListN.{length, getD, take}
+use Rattle.steps.specs.Step.{pick}
+use Rattle.wires.specs.Wires.{shown}
+use Rattle.sheet.specs.declared.JobHead.{JobHead}
+use Rattle.board.specs.Tests.{stepb}
+use Rattle.steps.specs.declared.Outcome.{Outcome}
+use Rattle.steps.specs.Outcome.{success, refusal}
+use Rattle.board.specs.Board.{opposite}
+use Rattle.board.specs.JobBoard.{anyBelow, breaksb, headBoard}
+use Rattle.board.specs.Check.{lowest}
+
+abbrev pub wordAt : List ℕ → ℕ → ℕ
+wordAt s at = getD s at 0 + 256 * getD s (at + 1) 0
+
+abbrev pub claimIn : List ℕ → ℕ → ℕ
+claimIn s i = wordAt s (6 + 4 * i)
+
+abbrev pub combinationIn : List ℕ → ℕ → ℕ
+combinationIn s i = wordAt s (8 + 4 * i)
+
+abbrev pub faultIn : JobHead → (rules s : List ℕ) → ℕ → Bool
+faultIn h rules s a =
+    breaksb (h .wires) (take (h .rules) rules) a
+    (getD s (2 + shown (h .wires) (h .«sees_a») a) 0)
+    (getD s (4 + 2 ^ ones (h .«sees_a») + shown (h .wires) (h .«sees_b») a) 0)
+
+-- the entry after entry i of k; after the last comes the first
+abbrev pub afterOf : (k i : ℕ) → ℕ
+afterOf k i = pick (eqb (i + 1) k) 0 (i + 1)
+
+abbrev pub stepIn : JobHead → (rules s : List ℕ) → (k i : ℕ) → Bool
+stepIn h rules s k i = stepb (headBoard h rules) (claimIn s i) (claimIn s (afterOf k i)) (combinationIn s i)
+
+abbrev pub opposedIn : List ℕ → ℕ → Bool
+opposedIn s i = eqb (claimIn s i) (opposite (claimIn s 0))
+
+abbrev pub walkIn : JobHead → (rules s : List ℕ) → ℕ → Outcome
+walkIn h rules s k =
+    pick (ltb (lowest (λ i. not (stepIn h rules s k i)) k) k)
+    (refusal 12 2 (lowest (λ i. not (stepIn h rules s k i)) k))
+    (pick (anyBelow (opposedIn s) k) (success 21 0) (refusal 13 2 0))
+
+pub record TablesIn (h : JobHead) (s : List ℕ) : Type 0 where
+  pub long : 6 + 2 ^ ones (h .«sees_a») + 2 ^ ones (h .«sees_b») ≤ length s
+  pub bitsA : (r : ℕ) → r < 2 ^ ones (h .«sees_a») → getD s (2 + r) 0 < 2
+  pub bitsB : (r : ℕ) → r < 2 ^ ones (h .«sees_b») → getD s (4 + 2 ^ ones (h .«sees_a») + r) 0 < 2
+
+pub record WalkIn (h : JobHead) (s : List ℕ) (k : ℕ) : Type 0 where
+  pub some : 0 < k
+  pub most : k ≤ 2046
+  pub long : 6 + 4 * k ≤ length s
+  pub combinations : (i : ℕ) → i < k → combinationIn s i < 2 ^ h .wires
