@@ -1,0 +1,10 @@
+pub mod Reach
+pub mod Trail
+pub mod Spreads
+pub mod Explore
+pub mod First
+pub mod Merge
+pub mod Same
+pub mod Solver
+pub mod Written
+pub mod Widen

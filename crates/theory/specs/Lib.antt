@@ -1,0 +1,4 @@
+pub mod Same
+pub mod Solve
+pub mod Trail
+pub mod Widen
