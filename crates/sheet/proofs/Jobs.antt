@@ -18,7 +18,8 @@ use Rattle.steps.specs.Bytes.{end}
 use Rattle.sheet.specs.JobSheet.{countedMask, rules, head, job, readJob, termsOf, wireLimit, ruleLimit}
 use Rattle.sheet.specs.JobFound.{headOf, asHead, asJob, whyHeadOf, rulesPass, kept, keptRules}
 use Rattle.steps.proofs.Entries.{next-inv, got-inj}
-use Rattle.sheet.proofs.Heads.{valueOf, through, through-not, head-facts}
+use Rattle.steps.proofs.Steps.{valueOf, through, through-not}
+use Rattle.sheet.proofs.Heads.{head-facts}
 
 apart-heads : (x : HeadRead) (h : JobHead) (n : ℕ) (w : Refusal) → x ≡ headRead.Got h n → x ≡ headRead.Refused w → ⊥
 apart-heads x h n w p q = let z : _≡_ {A = ℕ} 0 1 = cc in omega arith
