@@ -45,7 +45,7 @@ module _ (s : List ℕ) where
   module _ (n p : ℕ) (h₁ : count wireLimit s 0 ≡ got n p) where
     pub stop₂ : (w : Refusal) → pinsPass n s p ≡ refused w → head s 0 ≡ refused w
     unfolding head pinsPass
-    stop₂ w h = rw (h₁, through-not (entries n pinLimit 0 s p) n w h)
+    stop₂ w h = rw (h₁, through-not (entries n pinLimit 0 s p) (λ es. n) w h)
 
     module _ (v q : ℕ) (h₂ : pinsPass n s p ≡ got v q) where
       abbrev pinsOf : List ℕ

@@ -68,7 +68,7 @@ module _ (s : List ℕ) where
 
     pub no-rules : (w : Refusal) → rulesPass (h .rules) (2 * h .wires + 4) s at ≡ refused w → readJob s ≡ rejected w
     unfolding readJob job rulesPass
-    no-rules w r = rw (f, through-not (rules (H .count) (termsOf (H .wires)) s at) (H .count) w (sym same-rules ∙ r))
+    no-rules w r = rw (f, through-not (rules (H .count) (termsOf (H .wires)) s at) (λ rs. H .count) w (sym same-rules ∙ r))
 
     module _ (v q : ℕ) (r : rulesPass (h .rules) (2 * h .wires + 4) s at ≡ got v q) where
       abbrev rs : List ℕ

@@ -63,9 +63,9 @@ pub through : {A : Type 0} (d : A) (t : Step A) (c v n : ℕ) → next t (λ a m
 through d (got a m) c v n h = let e : m ≡ n = cc in ap (got a) e
 through d (refused w) c v n h = absurd (apart v n w (sym h))
 
-pub through-not : {A : Type 0} (t : Step A) (c : ℕ) (w : Refusal) → next t (λ a m. got c m) ≡ refused w → t ≡ refused w
-through-not (got a m) c w h = absurd (apart c m w h)
-through-not (refused w′) c w h = cc
+pub through-not : {A : Type 0} (t : Step A) (f : A → ℕ) (w : Refusal) → next t (λ a m. got (f a) m) ≡ refused w → t ≡ refused w
+through-not (got a m) f w h = absurd (apart (f a) m w h)
+through-not (refused w′) f w h = cc
 
 pub handed : (x : Read) (w w′ : Refusal) → w′ ≡ whyOf x → x ≡ Refused w → w′ ≡ w
 handed x w w′ e p = e ∙ ap whyOf p

@@ -1,33 +1,35 @@
+-- `answer::read_below` meets its contract: the word that was found, and the test, say which case of `below` holds. Assumes nothing.
+use borrow.Author.Tests.{lt-ltb, le-ltb}
+use Rattle.steps.proofs.Steps.{stop, go-on}
+use Rattle.answer.specs.AnswerSheet.{below, isBelow}
 use borrow.Author.Needs.{needs}
 use Rattle.answer.proofs.read_below.Statement.{statement}
 use Rattle.answer.proofs.read_below.Tie as tie
-use Rattle.answer.proofs.read_below.Reads as reads
-use Rattle.answer.proofs.read_below.Lts as lts
-use Rattle.steps.proofs.read_word.Reads as read-word-reads
 
--- src/lib.rt:120:9
 read-word-requires : tie.Need-read-word-requires
 read-word-requires c κs = search needs
 
--- src/lib.rt:121:19
 enum-known-found : tie.Need-enum-known-found
 enum-known-found c = search needs
 
--- src/lib.rt:122:9
 enum-told : tie.Need-enum-told
 enum-told c = search needs
 
--- src/lib.rt:122:9
 returns : tie.Need-returns
-returns c = ?
+unfolding below
+returns c = rw (stop _ _ _ _ (c .before .before .read-word .ensures) (c .enum-told .given .1)) (c .enum-told .given .1)
 
--- src/lib.rt:117:1
 returns-2 : tie.Need-returns-2
-returns-2 c = ?
+unfolding below isBelow
+returns-2 c =
+    let at-call = c .before .before .before .before in
+    rw (go-on _ _ _ _ _ (at-call .read-word .ensures) (c .before .before .found .given .1), lt-ltb _ _ (c .if1 .taken))
 
--- src/lib.rt:117:1
 returns-3 : tie.Need-returns-3
-returns-3 c = ?
+unfolding below isBelow
+returns-3 c =
+    let at-call = c .before .before .before .before in
+    rw (go-on _ _ _ _ _ (at-call .read-word .ensures) (c .before .before .found .given .1), le-ltb _ _ (c .if1 .left))
 
 pub read-below-spec : {M : Type 1} → statement M
 read-below-spec =

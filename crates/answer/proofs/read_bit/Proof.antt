@@ -1,33 +1,35 @@
+-- `answer::read_bit` meets its contract: the byte that was found, and the test, say which case of `bit` holds. Assumes nothing.
+use borrow.Author.Tests.{le-leb, lt-leb}
+use Rattle.steps.proofs.Steps.{stop, go-on}
+use Rattle.answer.specs.AnswerSheet.{bit, isBit}
 use borrow.Author.Needs.{needs}
 use Rattle.answer.proofs.read_bit.Statement.{statement}
 use Rattle.answer.proofs.read_bit.Tie as tie
-use Rattle.answer.proofs.read_bit.Reads as reads
-use Rattle.answer.proofs.read_bit.Lts as lts
-use Rattle.steps.proofs.read_byte.Reads as read-byte-reads
 
--- src/lib.rt:88:9
 read-byte-requires : tie.Need-read-byte-requires
 read-byte-requires c κs = search needs
 
--- src/lib.rt:89:19
 enum-known-found : tie.Need-enum-known-found
 enum-known-found c = search needs
 
--- src/lib.rt:90:9
 enum-told : tie.Need-enum-told
 enum-told c = search needs
 
--- src/lib.rt:90:9
 returns : tie.Need-returns
-returns c = ?
+unfolding bit
+returns c = rw (stop _ _ _ _ (c .before .before .read-byte .ensures) (c .enum-told .given .1)) (c .enum-told .given .1)
 
--- src/lib.rt:85:1
 returns-2 : tie.Need-returns-2
-returns-2 c = ?
+unfolding bit isBit
+returns-2 c =
+    let at-call = c .before .before .before .before in
+    rw (go-on _ _ _ _ _ (at-call .read-byte .ensures) (c .before .before .found .given .1), le-leb _ _ (c .if1 .taken))
 
--- src/lib.rt:85:1
 returns-3 : tie.Need-returns-3
-returns-3 c = ?
+unfolding bit isBit
+returns-3 c =
+    let at-call = c .before .before .before .before in
+    rw (go-on _ _ _ _ _ (at-call .read-byte .ensures) (c .before .before .found .given .1), lt-leb _ _ (c .if1 .left))
 
 pub read-bit-spec : {M : Type 1} → statement M
 read-bit-spec =

@@ -1,33 +1,35 @@
+-- `answer::read_exactly` meets its contract: the word that was found, and the test, say which case of `exactly` holds. Assumes nothing.
+use borrow.Author.Tests.{eq-eqb, ne-eqb}
+use Rattle.steps.proofs.Steps.{stop, go-on}
+use Rattle.answer.specs.AnswerSheet.{exactly, permitted}
 use borrow.Author.Needs.{needs}
 use Rattle.answer.proofs.read_exactly.Statement.{statement}
 use Rattle.answer.proofs.read_exactly.Tie as tie
-use Rattle.answer.proofs.read_exactly.Reads as reads
-use Rattle.answer.proofs.read_exactly.Lts as lts
-use Rattle.steps.proofs.read_word.Reads as read-word-reads
 
--- src/lib.rt:37:9
 read-word-requires : tie.Need-read-word-requires
 read-word-requires c κs = search needs
 
--- src/lib.rt:38:19
 enum-known-found : tie.Need-enum-known-found
 enum-known-found c = search needs
 
--- src/lib.rt:39:9
 enum-told : tie.Need-enum-told
 enum-told c = search needs
 
--- src/lib.rt:39:9
 returns : tie.Need-returns
-returns c = ?
+unfolding exactly
+returns c = rw (stop _ _ _ _ (c .before .before .read-word .ensures) (c .enum-told .given .1)) (c .enum-told .given .1)
 
--- src/lib.rt:34:1
 returns-2 : tie.Need-returns-2
-returns-2 c = ?
+unfolding exactly permitted
+returns-2 c =
+    let at-call = c .before .before .before .before in
+    rw (go-on _ _ _ _ _ (at-call .read-word .ensures) (c .before .before .found .given .1), eq-eqb _ _ (c .if1 .taken))
 
--- src/lib.rt:34:1
 returns-3 : tie.Need-returns-3
-returns-3 c = ?
+unfolding exactly permitted
+returns-3 c =
+    let at-call = c .before .before .before .before in
+    rw (go-on _ _ _ _ _ (at-call .read-word .ensures) (c .before .before .found .given .1), ne-eqb _ _ (c .if1 .left))
 
 pub read-exactly-spec : {M : Type 1} → statement M
 read-exactly-spec =

@@ -1,37 +1,41 @@
+-- `answer::read_kind` meets its contract: the word that was found, and the tests, say which case of `kindCount` holds. Assumes nothing.
+use borrow.Author.Tests.{eq-eqb, ne-eqb}
+use Rattle.steps.proofs.Steps.{stop, go-on}
+use Rattle.answer.specs.AnswerSheet.{kindCount, permitted}
 use borrow.Author.Needs.{needs}
 use Rattle.answer.proofs.read_kind.Statement.{statement}
 use Rattle.answer.proofs.read_kind.Tie as tie
-use Rattle.answer.proofs.read_kind.Reads as reads
-use Rattle.answer.proofs.read_kind.Lts as lts
-use Rattle.steps.proofs.read_word.Reads as read-word-reads
 
--- src/lib.rt:52:9
 read-word-requires : tie.Need-read-word-requires
 read-word-requires c κs = search needs
 
--- src/lib.rt:53:19
 enum-known-found : tie.Need-enum-known-found
 enum-known-found c = search needs
 
--- src/lib.rt:54:9
 enum-told : tie.Need-enum-told
 enum-told c = search needs
 
--- src/lib.rt:54:9
 returns : tie.Need-returns
-returns c = ?
+unfolding kindCount
+returns c = rw (stop _ _ _ _ (c .before .before .read-word .ensures) (c .enum-told .given .1)) (c .enum-told .given .1)
 
--- src/lib.rt:57:9
 returns-2 : tie.Need-returns-2
-returns-2 c = ?
+unfolding kindCount permitted
+returns-2 c =
+    let at-call = c .before .before .before .before in
+    rw (go-on _ _ _ _ _ (at-call .read-word .ensures) (c .before .before .found .given .1), eq-eqb _ _ (c .if1 .taken))
 
--- src/lib.rt:49:1
 returns-3 : tie.Need-returns-3
-returns-3 c = ?
+unfolding kindCount permitted
+returns-3 c =
+    let at-call = c .before .before .before .before .before in
+    rw (go-on _ _ _ _ _ (at-call .read-word .ensures) (c .before .before .before .found .given .1), ne-eqb _ _ (c .before .if1 .left), eq-eqb _ _ (c .if2 .taken))
 
--- src/lib.rt:49:1
 returns-4 : tie.Need-returns-4
-returns-4 c = ?
+unfolding kindCount permitted
+returns-4 c =
+    let at-call = c .before .before .before .before .before in
+    rw (go-on _ _ _ _ _ (at-call .read-word .ensures) (c .before .before .before .found .given .1), ne-eqb _ _ (c .before .if1 .left), ne-eqb _ _ (c .if2 .left))
 
 pub read-kind-spec : {M : Type 1} → statement M
 read-kind-spec =

@@ -1,37 +1,41 @@
+-- `answer::read_walk_count` meets its contract: the word that was found, and the tests, say which case of `walkCount` holds. Assumes nothing.
+use borrow.Author.Tests.{le-leb, lt-leb}
+use Rattle.steps.proofs.Steps.{stop, go-on}
+use Rattle.answer.specs.AnswerSheet.{walkCount, permitted}
 use borrow.Author.Needs.{needs}
 use Rattle.answer.proofs.read_walk_count.Statement.{statement}
 use Rattle.answer.proofs.read_walk_count.Tie as tie
-use Rattle.answer.proofs.read_walk_count.Reads as reads
-use Rattle.answer.proofs.read_walk_count.Lts as lts
-use Rattle.steps.proofs.read_word.Reads as read-word-reads
 
--- src/lib.rt:70:9
 read-word-requires : tie.Need-read-word-requires
 read-word-requires c κs = search needs
 
--- src/lib.rt:71:19
 enum-known-found : tie.Need-enum-known-found
 enum-known-found c = search needs
 
--- src/lib.rt:72:9
 enum-told : tie.Need-enum-told
 enum-told c = search needs
 
--- src/lib.rt:72:9
 returns : tie.Need-returns
-returns c = ?
+unfolding walkCount
+returns c = rw (stop _ _ _ _ (c .before .before .read-word .ensures) (c .enum-told .given .1)) (c .enum-told .given .1)
 
--- src/lib.rt:75:9
 returns-2 : tie.Need-returns-2
-returns-2 c = ?
+unfolding walkCount permitted
+returns-2 c =
+    let at-call = c .before .before .before .before in
+    rw (go-on _ _ _ _ _ (at-call .read-word .ensures) (c .before .before .found .given .1), lt-leb _ _ (c .if1 .taken))
 
--- src/lib.rt:67:1
 returns-3 : tie.Need-returns-3
-returns-3 c = ?
+unfolding walkCount permitted
+returns-3 c =
+    let at-call = c .before .before .before .before .before in
+    rw (go-on _ _ _ _ _ (at-call .read-word .ensures) (c .before .before .before .found .given .1), le-leb _ _ (c .before .if1 .left), le-leb _ _ (c .if2 .taken))
 
--- src/lib.rt:67:1
 returns-4 : tie.Need-returns-4
-returns-4 c = ?
+unfolding walkCount permitted
+returns-4 c =
+    let at-call = c .before .before .before .before .before in
+    rw (go-on _ _ _ _ _ (at-call .read-word .ensures) (c .before .before .before .found .given .1), le-leb _ _ (c .before .if1 .left), lt-leb _ _ (c .if2 .left))
 
 pub read-walk-count-spec : {M : Type 1} → statement M
 read-walk-count-spec =
