@@ -1,80 +1,79 @@
+-- `answer::read_walk` meets its contract: `at1` to `at4` are the places after the four calls, and `walk-is` says what follows each. Assumes nothing.
+use Rattle.steps.proofs.Steps.{stop, go-on}
+use Rattle.answer.proofs.Sections.{walk-is}
 use borrow.Author.Needs.{needs}
 use Rattle.answer.proofs.read_walk.Statement.{statement}
 use Rattle.answer.proofs.read_walk.Tie as tie
-use Rattle.answer.proofs.read_walk.Reads as reads
-use Rattle.answer.proofs.read_walk.Lts as lts
-use Rattle.answer.proofs.read_entries.Reads as read-entries-reads
-use Rattle.answer.proofs.read_exactly.Reads as read-exactly-reads
-use Rattle.answer.proofs.read_walk_count.Reads as read-walk-count-reads
-use Rattle.steps.proofs.read_end.Reads as read-end-reads
 
--- src/lib.rt:179:9
 read-exactly-requires : tie.Need-read-exactly-requires
 read-exactly-requires c κs = search needs
 
--- src/lib.rt:180:22
 enum-known-none : tie.Need-enum-known-none
 enum-known-none c = search needs
 
--- src/lib.rt:181:9
 enum-told : tie.Need-enum-told
 enum-told c = search needs
 
--- src/lib.rt:181:9
 returns : tie.Need-returns
-returns c = ?
+returns c =
+    let at1 = c .before .before in
+    rw (walk-is, stop _ _ _ _ (at1 .read-exactly .ensures) (c .enum-told .given .1)) (c .enum-told .given .1)
 
--- src/lib.rt:183:9
 read-walk-count-requires : tie.Need-read-walk-count-requires
 read-walk-count-requires c κs = search needs
 
--- src/lib.rt:184:19
 enum-known-counted : tie.Need-enum-known-counted
 enum-known-counted c = search needs
 
--- src/lib.rt:185:9
 enum-told-2 : tie.Need-enum-told-2
 enum-told-2 c = search needs
 
--- src/lib.rt:185:9
 returns-2 : tie.Need-returns-2
-returns-2 c = ?
+returns-2 c =
+    let at2 = c .before .before in
+    let at1 = at2 .before .before .before .before in
+    rw (walk-is, go-on _ _ _ _ _ (at1 .read-exactly .ensures) (at2 .before .before .none .given .1), stop _ _ _ _ (at2 .read-walk-count .ensures) (c .enum-told2 .given .1)) (c .enum-told2 .given .1)
 
--- src/lib.rt:187:9
 read-entries-requires : tie.Need-read-entries-requires
 read-entries-requires c κs = search needs
 
--- src/lib.rt:188:22
 enum-known-walk : tie.Need-enum-known-walk
 enum-known-walk c = search needs
 
--- src/lib.rt:189:9
 enum-told-3 : tie.Need-enum-told-3
 enum-told-3 c = search needs
 
--- src/lib.rt:189:9
 returns-3 : tie.Need-returns-3
-returns-3 c = ?
+returns-3 c =
+    let at3 = c .before .before in
+    let at2 = at3 .before .before .before .before in
+    let at1 = at2 .before .before .before .before in
+    rw (walk-is, go-on _ _ _ _ _ (at1 .read-exactly .ensures) (at2 .before .before .none .given .1), go-on _ _ _ _ _ (at2 .read-walk-count .ensures) (at3 .before .before .counted .given .1), stop _ _ _ _ (at3 .read-entries .ensures) (c .enum-told3 .given .1)) (c .enum-told3 .given .1)
 
--- src/lib.rt:191:9
 read-end-requires : tie.Need-read-end-requires
 read-end-requires c κs = search needs
 
--- src/lib.rt:192:22
 enum-known-ended : tie.Need-enum-known-ended
 enum-known-ended c = search needs
 
--- src/lib.rt:193:9
 enum-told-4 : tie.Need-enum-told-4
 enum-told-4 c = search needs
 
--- src/lib.rt:193:9
 returns-4 : tie.Need-returns-4
-returns-4 c = ?
+returns-4 c =
+    let at4 = c .before .before in
+    let at3 = at4 .before .before .before .before in
+    let at2 = at3 .before .before .before .before in
+    let at1 = at2 .before .before .before .before in
+    rw (walk-is, go-on _ _ _ _ _ (at1 .read-exactly .ensures) (at2 .before .before .none .given .1), go-on _ _ _ _ _ (at2 .read-walk-count .ensures) (at3 .before .before .counted .given .1), go-on _ _ _ _ _ (at3 .read-entries .ensures) (at4 .before .before .walk .given .1), stop _ _ _ _ (at4 .read-end .ensures) (c .enum-told4 .given .1)) (c .enum-told4 .given .1)
 
--- src/lib.rt:176:1
 returns-5 : tie.Need-returns-5
-returns-5 c = ?
+returns-5 c =
+    let at4 = c .before .before .before in
+    let at3 = at4 .before .before .before .before in
+    let at2 = at3 .before .before .before .before in
+    let at1 = at2 .before .before .before .before in
+    rw (walk-is, go-on _ _ _ _ _ (at1 .read-exactly .ensures) (at2 .before .before .none .given .1), go-on _ _ _ _ _ (at2 .read-walk-count .ensures) (at3 .before .before .counted .given .1), go-on _ _ _ _ _ (at3 .read-entries .ensures) (at4 .before .before .walk .given .1), go-on _ _ _ _ _ (at4 .read-end .ensures) (c .before .ended .given .1))
 
 pub read-walk-spec : {M : Type 1} → statement M
 read-walk-spec =
