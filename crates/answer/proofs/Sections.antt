@@ -87,3 +87,63 @@ walk-is claims combinations s at =
     inner-past (entries k claims combinations s c) _ _ k _ (λ es d p.
     let long = many-length (entries-many claims combinations) k s c es d p in
     inner (end s d) _ _ (λ e q. got k q) (λ e q. ap (λ (n : ℕ). got n q) long))))
+
+walk-shape : (claims combinations : ℕ) (s : List ℕ) (at : ℕ) (a : Answer) (n : ℕ) → walkRest claims combinations s at ≡ got a n → (es : List Entry) × (a ≡ walk es)
+unfolding walkRest
+walk-shape claims combinations s at a n h =
+    let i₁ = next-inv (exactly 0 s at) _ a n h in
+    let i₂ = next-inv (walkCount s (i₁ .1)) _ a n (i₁ .3) in
+    let i₃ = next-inv (entries (i₂ .0) claims combinations s (i₂ .1)) _ a n (i₂ .3) in
+    let i₄ = next-inv (end s (i₃ .1)) _ a n (i₃ .3) in
+    (i₃ .0, sym (got-inj _ a _ n (i₄ .3)))
+
+tables-shape : (rowsA rowsB : ℕ) (s : List ℕ) (at : ℕ) (a : Answer) (n : ℕ) → tablesRest rowsA rowsB s at ≡ got a n → (xs ys : List ℕ) × (a ≡ tables xs ys)
+unfolding tablesRest
+tables-shape rowsA rowsB s at a n h =
+    let i₁ = next-inv (bits rowsA s at) _ a n h in
+    let i₂ = next-inv (exactly rowsB s (i₁ .1)) _ a n (i₁ .3) in
+    let i₃ = next-inv (bits rowsB s (i₂ .1)) _ a n (i₂ .3) in
+    let i₄ = next-inv (exactly 0 s (i₃ .1)) _ a n (i₃ .3) in
+    let i₅ = next-inv (end s (i₄ .1)) _ a n (i₄ .3) in
+    (i₁ .0, i₃ .0, sym (got-inj _ a _ n (i₅ .3)))
+
+-- ---- the whole sheet
+
+module _ (rowsA rowsB combinations : ℕ) (s : List ℕ) where
+  pub no-kind : (w : Refusal) → kindCount rowsA s 0 ≡ refused w → readAnswer rowsA rowsB combinations s ≡ rejected w
+  unfolding readAnswer answer
+  no-kind w h = rw h
+
+  module _ (n m : ℕ) (h : kindCount rowsA s 0 ≡ got n m) where
+    module _ (z : n ≡ 0) where
+      is-walk : readAnswer rowsA rowsB combinations s ≡ verdictOf (walkRest (2 * (rowsA + rowsB)) combinations s m)
+      unfolding readAnswer answer
+      is-walk = rw (h, eq-eqb n 0 z)
+
+      pub no-walk : (w : Refusal) → walkPass (2 * (rowsA + rowsB)) combinations s m ≡ refused w → readAnswer rowsA rowsB combinations s ≡ rejected w
+      unfolding walkPass
+      no-walk w p = is-walk ∙ ap verdictOf (through-not (walkRest (2 * (rowsA + rowsB)) combinations s m) countOf w p)
+
+      pub walk-found : (v q : ℕ) → walkPass (2 * (rowsA + rowsB)) combinations s m ≡ got v q → Walk v ≡ asAnswer (readAnswer rowsA rowsB combinations s)
+      unfolding walkPass
+      walk-found v q p =
+          let i = next-inv (walkRest (2 * (rowsA + rowsB)) combinations s m) _ v q p in
+          let es = walk-shape (2 * (rowsA + rowsB)) combinations s m (i .0) (i .1) (i .2) in
+          let long : length (es .0) ≡ v = ap countOf (sym (es .1)) ∙ got-inj _ _ _ _ (i .3) in
+          sym (ap asAnswer (is-walk ∙ ap verdictOf (i .2) ∙ ap answered (es .1)) ∙ ap Walk long)
+
+    module _ (z : n ≡ 0 → ⊥) where
+      is-tables : readAnswer rowsA rowsB combinations s ≡ verdictOf (tablesRest rowsA rowsB s m)
+      unfolding readAnswer answer
+      is-tables = rw (h, ne-eqb n 0 z)
+
+      pub no-tables : (w : Refusal) → tablesPass rowsA rowsB s m ≡ refused w → readAnswer rowsA rowsB combinations s ≡ rejected w
+      unfolding tablesPass
+      no-tables w p = is-tables ∙ ap verdictOf (through-not (tablesRest rowsA rowsB s m) countOf w p)
+
+      pub tables-found : (v q : ℕ) → tablesPass rowsA rowsB s m ≡ got v q → Tables ≡ asAnswer (readAnswer rowsA rowsB combinations s)
+      unfolding tablesPass
+      tables-found v q p =
+          let i = next-inv (tablesRest rowsA rowsB s m) _ v q p in
+          let is = tables-shape rowsA rowsB s m (i .0) (i .1) (i .2) in
+          sym (ap asAnswer (is-tables ∙ ap verdictOf (i .2) ∙ ap answered (is .2)))

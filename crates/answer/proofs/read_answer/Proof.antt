@@ -1,87 +1,96 @@
+-- `answer::read_answer` meets its contract: `at2` is the place after the second call, `test` where the first count was told from 0, `known` where it was found, and `Sections` has what each of them comes to. Assumes nothing.
+use mathlib.Core.Path.{sym, ap, _∙_}
+use Rattle.steps.proofs.Steps.{found, faulty, handed}
+use Rattle.answer.specs.declared.AnswerRead.the-variants.{Refused}
+use Rattle.answer.specs.AnswerFound.{asAnswer}
+use Rattle.answer.proofs.Sections.{no-kind, no-walk, walk-found, no-tables, tables-found}
 use borrow.Author.Needs.{needs}
 use Rattle.answer.proofs.read_answer.Statement.{statement}
 use Rattle.answer.proofs.read_answer.Tie as tie
-use Rattle.answer.proofs.read_answer.Reads as reads
-use Rattle.answer.proofs.read_answer.Lts as lts
-use Rattle.answer.proofs.read_kind.Reads as read-kind-reads
-use Rattle.answer.proofs.read_tables.Reads as read-tables-reads
-use Rattle.answer.proofs.read_walk.Reads as read-walk-reads
-use Rattle.steps.proofs.why.Reads as why-reads
 
--- src/lib.rt:203:9
 read-kind-requires : tie.Need-read-kind-requires
 read-kind-requires c κs = search needs
 
--- src/lib.rt:204:19
 enum-known-kind : tie.Need-enum-known-kind
 enum-known-kind c = search needs
 
--- src/lib.rt:205:36
 enum-told : tie.Need-enum-told
 enum-told c = search needs
 
--- src/lib.rt:205:36
 why-requires : tie.Need-why-requires
 why-requires c κs = search needs
 
--- src/lib.rt:205:9
 returns : tie.Need-returns
-returns c = ?
+returns c =
+    let why = c .before .enum-told .given .1 in
+    ap Refused (handed _ _ _ (c .why .ensures) why)
+    ∙ ap asAnswer (sym (no-kind _ _ _ _ _ (faulty _ _ _ (c .before .before .before .read-kind .ensures) why)))
 
--- src/lib.rt:208:48
 add-read-walk : tie.Need-add-read-walk
 add-read-walk c = search needs
 
--- src/lib.rt:208:43
 mul-read-walk : tie.Need-mul-read-walk
 mul-read-walk c = search needs
 
--- src/lib.rt:208:13
 read-walk-requires : tie.Need-read-walk-requires
 read-walk-requires c κs = search needs
 
--- src/lib.rt:209:23
 enum-known-walk : tie.Need-enum-known-walk
 enum-known-walk c = search needs
 
--- src/lib.rt:210:40
 enum-told-2 : tie.Need-enum-told-2
 enum-told-2 c = search needs
 
--- src/lib.rt:210:40
 why-requires-2 : tie.Need-why-requires-2
 why-requires-2 c κs = search needs
 
--- src/lib.rt:210:13
 returns-2 : tie.Need-returns-2
-returns-2 c = ?
+returns-2 c =
+    let at2 = c .before .before .before in
+    let test = at2 .before in
+    let known = test .before .before in
+    let kind = found _ _ _ _ (known .before .before .read-kind .ensures) (known .kind .given .1) in
+    let why = c .before .enum-told2 .given .1 in
+    ap Refused (handed _ _ _ (c .why2 .ensures) why)
+    ∙ ap asAnswer (sym (no-walk _ _ _ _ _ _ kind (test .if1 .taken) _ (faulty _ _ _ (at2 .read-walk .ensures) why)))
 
--- src/lib.rt:214:13
 read-tables-requires : tie.Need-read-tables-requires
 read-tables-requires c κs = search needs
 
 enum-told-3 : tie.Need-enum-told-3
 enum-told-3 c = search needs
 
--- src/lib.rt:216:40
 enum-told-4 : tie.Need-enum-told-4
 enum-told-4 c = search needs
 
--- src/lib.rt:216:40
 why-requires-3 : tie.Need-why-requires-3
 why-requires-3 c κs = search needs
 
--- src/lib.rt:216:13
 returns-3 : tie.Need-returns-3
-returns-3 c = ?
+returns-3 c =
+    let at2 = c .before .before .before in
+    let test = at2 .before in
+    let known = test .before .before in
+    let kind = found _ _ _ _ (known .before .before .read-kind .ensures) (known .kind .given .1) in
+    let why = c .before .enum-told4 .given .1 in
+    ap Refused (handed _ _ _ (c .why3 .ensures) why)
+    ∙ ap asAnswer (sym (no-tables _ _ _ _ _ _ kind (test .if1 .left) _ (faulty _ _ _ (at2 .read-tables .ensures) why)))
 
--- src/lib.rt:199:1
 returns-4 : tie.Need-returns-4
-returns-4 c = ?
+returns-4 c =
+    let at2 = c .before .before .before in
+    let test = at2 .before in
+    let known = test .before .before in
+    let kind = found _ _ _ _ (known .before .before .read-kind .ensures) (known .kind .given .1) in
+    walk-found _ _ _ _ _ _ kind (test .if1 .taken) _ _ (found _ _ _ _ (at2 .read-walk .ensures) (c .before .walk .given .1))
 
--- src/lib.rt:199:1
 returns-5 : tie.Need-returns-5
-returns-5 c = ?
+returns-5 c =
+    let at2 = c .before .before in
+    let test = at2 .before in
+    let known = test .before .before in
+    let kind = found _ _ _ _ (known .before .before .read-kind .ensures) (known .kind .given .1) in
+    tables-found _ _ _ _ _ _ kind (test .if1 .left) _ _ (found _ _ _ _ (at2 .read-tables .ensures) (c .enum-told3 .given .1))
 
 pub read-answer-spec : {M : Type 1} → statement M
 read-answer-spec =
