@@ -8,30 +8,14 @@ use borrow.Author.Tests.{leb-true}
 use lib.Dec.{leb}
 use lib.ListN.{length}
 use Rattle.steps.specs.declared.Refusal.{Refusal}
-use Rattle.steps.specs.declared.Read.{Read}
-use Rattle.steps.specs.declared.Read.the-variants.{Refused}
 use Rattle.sheet.specs.declared.HeadRead.the-variants as headRead
 use Rattle.steps.specs.Step.{Step, got, refused, next, pick}
 use Rattle.sheet.specs.Job.{Head}
 use Rattle.steps.specs.Bytes.{byte, word, within, count, wordCount, entries}
 use Rattle.sheet.specs.JobSheet.{countedMask, head, wireLimit, seenLimit, ruleLimit, pinLimit}
-use Rattle.steps.specs.Found.{whyOf}
 use Rattle.sheet.specs.JobFound.{pinsPass, asHead}
 use Rattle.steps.proofs.Entries.{apart, next-inv, got-inj, byte-next, entries-length}
-
--- the value that a step found, where it found one
-abbrev pub valueOf : {A : Type 0} → A → Step A → A
-valueOf d (got a n) = a
-valueOf d (refused w) = d
-
--- a step of which only the place was told
-pub through : {A : Type 0} (d : A) (t : Step A) (c v n : ℕ) → next t (λ a m. got c m) ≡ got v n → t ≡ got (valueOf d t) n
-through d (got a m) c v n h = let e : m ≡ n = cc in ap (got a) e
-through d (refused w) c v n h = absurd (apart v n w (sym h))
-
-pub through-not : {A : Type 0} (t : Step A) (c : ℕ) (w : Refusal) → next t (λ a m. got c m) ≡ refused w → t ≡ refused w
-through-not (got a m) c w h = absurd (apart c m w h)
-through-not (refused w′) c w h = cc
+use Rattle.steps.proofs.Steps.{valueOf, through, through-not}
 
 -- a count that was found is within its limit, and its place is the next
 count-is : (most first n v m : ℕ) (s : List ℕ) (at : ℕ) → within most first n s at ≡ got v m → (v ≤ most) × (m ≡ at)
@@ -53,9 +37,6 @@ pub word-count-bounds : (most : ℕ) (s : List ℕ) (at v m : ℕ) → wordCount
 unfolding wordCount
 word-count-bounds most s at v m h = let i = next-inv (word s at) _ v m h in count-is most at (i .0) v m s (i .1) (i .3) .0
 
-pub handed : (x : Read) (w w′ : Refusal) → w′ ≡ whyOf x → x ≡ Refused w → w′ ≡ w
-handed x w w′ e p = e ∙ ap whyOf p
-
 module _ (s : List ℕ) where
   pub stop₁ : (w : Refusal) → count wireLimit s 0 ≡ refused w → head s 0 ≡ refused w
   unfolding head
@@ -64,7 +45,7 @@ module _ (s : List ℕ) where
   module _ (n p : ℕ) (h₁ : count wireLimit s 0 ≡ got n p) where
     pub stop₂ : (w : Refusal) → pinsPass n s p ≡ refused w → head s 0 ≡ refused w
     unfolding head pinsPass
-    stop₂ w h = rw (h₁, through-not (entries n pinLimit 0 s p) n w h)
+    stop₂ w h = rw (h₁, through-not (entries n pinLimit 0 s p) (λ es. n) w h)
 
     module _ (v q : ℕ) (h₂ : pinsPass n s p ≡ got v q) where
       abbrev pinsOf : List ℕ

@@ -18,7 +18,8 @@ use Rattle.steps.specs.Bytes.{end}
 use Rattle.sheet.specs.JobSheet.{countedMask, rules, head, job, readJob, termsOf, wireLimit, ruleLimit}
 use Rattle.sheet.specs.JobFound.{headOf, asHead, asJob, whyHeadOf, rulesPass, kept, keptRules}
 use Rattle.steps.proofs.Entries.{next-inv, got-inj}
-use Rattle.sheet.proofs.Heads.{valueOf, through, through-not, head-facts}
+use Rattle.steps.proofs.Steps.{valueOf, through, through-not}
+use Rattle.sheet.proofs.Heads.{head-facts}
 
 apart-heads : (x : HeadRead) (h : JobHead) (n : ℕ) (w : Refusal) → x ≡ headRead.Got h n → x ≡ headRead.Refused w → ⊥
 apart-heads x h n w p q = let z : _≡_ {A = ℕ} 0 1 = cc in omega arith
@@ -67,7 +68,7 @@ module _ (s : List ℕ) where
 
     pub no-rules : (w : Refusal) → rulesPass (h .rules) (2 * h .wires + 4) s at ≡ refused w → readJob s ≡ rejected w
     unfolding readJob job rulesPass
-    no-rules w r = rw (f, through-not (rules (H .count) (termsOf (H .wires)) s at) (H .count) w (sym same-rules ∙ r))
+    no-rules w r = rw (f, through-not (rules (H .count) (termsOf (H .wires)) s at) (λ rs. H .count) w (sym same-rules ∙ r))
 
     module _ (v q : ℕ) (r : rulesPass (h .rules) (2 * h .wires + 4) s at ≡ got v q) where
       abbrev rs : List ℕ

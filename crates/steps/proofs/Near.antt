@@ -136,7 +136,7 @@ near-word at =
     (λ s low m h.
     near-then 1 0 m (λ s. byte s m) (λ high n s. got (low + 256 * high) n) (near-byte m) (λ s high n g. near-give n (low + 256 * high)))
 
-word-next : (s : List ℕ) (at v m : ℕ) → word s at ≡ got v m → m ≡ at + 2
+pub word-next : (s : List ℕ) (at v m : ℕ) → word s at ≡ got v m → m ≡ at + 2
 unfolding word
 word-next s at v m h =
     let i = next-inv (byte s at) _ v m h in

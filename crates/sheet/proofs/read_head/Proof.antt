@@ -3,8 +3,8 @@ use mathlib.Core.Path.{sym, ap, _∙_}
 use native.Mathlib.Omega.{arith}
 use Rattle.sheet.specs.declared.HeadRead.the-variants as headRead
 use Rattle.sheet.specs.JobFound.{asHead}
-use Rattle.steps.proofs.Steps.{found, faulty}
-use Rattle.sheet.proofs.Heads.{count-bounds, handed, stop₁, stop₂, stop₃, stop₄, stop₅, all}
+use Rattle.steps.proofs.Steps.{found, faulty, handed}
+use Rattle.sheet.proofs.Heads.{count-bounds, stop₁, stop₂, stop₃, stop₄, stop₅, all}
 use borrow.Author.Needs.{needs}
 use Rattle.sheet.proofs.read_head.Statement.{statement}
 use Rattle.sheet.proofs.read_head.Tie as tie

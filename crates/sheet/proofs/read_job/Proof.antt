@@ -5,8 +5,7 @@ use native.Mathlib.Omega.{arith}
 use lib.Seq.{sets}
 use Rattle.sheet.specs.declared.JobRead.the-variants as jobRead
 use Rattle.sheet.specs.JobFound.{asJob}
-use Rattle.steps.proofs.Steps.{found, faulty}
-use Rattle.sheet.proofs.Heads.{handed}
+use Rattle.steps.proofs.Steps.{found, faulty, handed}
 use Rattle.sheet.proofs.Jobs.{head-found, head-faulty, handed-head, no-head, none-kept, bounds, some-kept, no-rules, no-end, all}
 use Rattle.sheet.proofs.read_job.Statement.{statement}
 use Rattle.sheet.proofs.read_job.Tie as tie

@@ -1,0 +1,2 @@
+pub mod Many
+pub mod Sections
