@@ -1,2 +1,4 @@
 pub mod Many
 pub mod Sections
+pub mod Runs
+pub mod There
