@@ -1,5 +1,7 @@
 // The checker. It reads the job and the answer, and judges the tables or the walk where they stand in the sheet.
 // Leans on the test of one combination, and on no table.
+use crate::step_holds;
+use crate::test;
 use answer::AnswerRead;
 use sheet::JobHead;
 use sheet::JobRead;
@@ -14,9 +16,6 @@ use wires::Claim;
 use wires::Combination;
 use wires::row_count;
 use wires::row_shown;
-use crate::step_holds;
-use crate::test;
-
 ghost use mathlib.Core.Path.{_≡_};
 ghost use mathlib.Core.Bool.{not};
 ghost use Prim.Native.Nat.{_+_, _*_, _^_, _<_, _≤_};
