@@ -8,11 +8,21 @@ use Rattle.wires.specs.Wires.{shown}
 use Rattle.faults.specs.Table.{bit as digit}
 use Rattle.grid.specs.Grid.{bit}
 
+-- what `double` asks and leaves: the first `size` entries stay, and the next are these with `step` added
+pub record Doubles (s : List ℕ) (size step : ℕ) : Type 0 where
+  pub room : size + size ≤ length s
+  pub fits : (i : ℕ) → i < size → getD s i 0 + step < 256
+
+pub record Doubled (s t : List ℕ) (size step : ℕ) : Type 0 where
+  pub long : length t ≡ length s
+  pub low : (i : ℕ) → i < size → getD t i 0 ≡ getD s i 0
+  pub high : (i : ℕ) → i < size → getD t (size + i) 0 ≡ getD s i 0 + step
+
 -- what `fill_rows` asks of its numbers
 pub record Asks (wires seen : ℕ) (s : List ℕ) : Type 0 where
   pub few : wires ≤ 14
   pub mask : seen < 2 ^ wires
-  pub seen : ones seen ≤ 8
+  pub few-seen : ones seen ≤ 8
   pub room : 2 ^ wires ≤ length s
 
 -- t has at each combination the row that it shows

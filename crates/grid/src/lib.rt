@@ -3,7 +3,7 @@
 ghost use mathlib.Core.Path.{_≡_};
 ghost use Prim.Native.Nat.{_≤_};
 ghost use lib.ListN.{length};
-ghost use Rattle.grid.specs.Filled.{Asks, Rows, Faulted};
+ghost use Rattle.grid.specs.Filled.{Doubles, Doubled, Asks, Rows, Faulted};
 
 // The sizes of a board: its wires, the wires that each cell sees, the rows of each cell, and the combinations.
 pub struct Shape {

@@ -8,7 +8,7 @@ use mathlib.Core.List.{List}
 use Prim.Native.Nat.{ℕ, _+_, _*_, _/_, _%_, _^_, _<_, _≤_}
 use native.Mathlib.Omega.{arith}
 use Rattle.steps.specs.declared.Refusal.{Refusal}
-use Rattle.steps.specs.declared.Refusal.the-variants.{Ends, TooMany, NotRising, TooHigh, LeftOver}
+use Rattle.steps.specs.declared.Refusal.the-variants.{Ends, TooMany, NotRising, TooHigh, LeftOver, OtherKind, NotABit, OutOfRange}
 use Rattle.steps.specs.declared.Outcome.{Outcome}
 use Rattle.sheet.specs.Job.{Verdict, accepted, rejected}
 use Rattle.steps.specs.Outcome.{codeOf, placeOf, success, refusal, refusedJob}
@@ -47,6 +47,9 @@ code-small (TooMany p) = omega arith
 code-small (NotRising p) = omega arith
 code-small (TooHigh p) = omega arith
 code-small (LeftOver p) = omega arith
+code-small (OtherKind p) = omega arith
+code-small (NotABit p) = omega arith
+code-small (OutOfRange p) = omega arith
 
 verdict-packs : (s : List ℕ) (v : Verdict) → readJob s ≡ v → Packs (outcomeOf v)
 verdict-packs s (accepted j) e = record { code = omega arith; sheet = omega arith; place = omega arith; written = omega arith }
