@@ -6,15 +6,14 @@
 -- Assumes nothing.
 use mathlib.Core.Path.{_≡_, refl, sym, ap, _∙_}
 use mathlib.Core.List.{List, [], _∷_}
-use Prim.Native.Nat.{ℕ, zero, suc, _+_, _-_, _*_, _≤_, _<_}
+use Prim.Native.Nat.{ℕ, zero, suc, _-_, _≤_, _<_}
 use native.Mathlib.Nat.{not-suc-le-zero}
 use native.Mathlib.Omega.{arith}
 use lib.ListN.{length}
 use Rattle.steps.specs.declared.Refusal.{Refusal}
-use Rattle.steps.specs.Step.{Step, got, refused, next, Reading}
+use Rattle.steps.specs.Step.{got, refused, next, Reading}
 use Rattle.steps.proofs.Entries.{assoc, next-inv, got-inj}
-use Rattle.answer.specs.Answer.{Entry}
-use Rattle.answer.specs.AnswerSheet.{bit, bits, below, entry, entries}
+use Rattle.answer.specs.AnswerSheet.{bit, bits, entry, entries}
 
 pub record Many {A : Type 0} (one : Reading A) (many : ℕ → Reading (List A)) : Type 0 where
   pub none : (s : List ℕ) (at : ℕ) → many 0 s at ≡ got [] at

@@ -6,7 +6,7 @@
 -- Assumes nothing.
 use mathlib.Core.Path.{_≡_, refl, sym, ap, _∙_}
 use mathlib.Core.Bool.{Bool, true, false}
-use mathlib.Core.List.{List, []}
+use mathlib.Core.List.{List}
 use Prim.Native.Nat.{ℕ, _+_, _*_}
 use borrow.Author.Tests.{eq-eqb, ne-eqb}
 use lib.Dec.{ltb}
@@ -17,9 +17,8 @@ use Rattle.steps.specs.Step.{Step, got, refused, next, pick}
 use Rattle.steps.specs.Bytes.{end}
 use Rattle.steps.proofs.Entries.{next-inv, got-inj}
 use Rattle.steps.proofs.Steps.{through-not}
-use Rattle.answer.specs.declared.AnswerRead.{AnswerRead}
-use Rattle.answer.specs.declared.AnswerRead.the-variants.{Tables, Walk, Refused}
-use Rattle.answer.specs.Answer.{Entry, Answer, tables, walk, AnswerVerdict, answered, rejected}
+use Rattle.answer.specs.declared.AnswerRead.the-variants.{Tables, Walk}
+use Rattle.answer.specs.Answer.{Entry, Answer, tables, walk, answered, rejected}
 use Rattle.answer.specs.AnswerSheet.{exactly, kindCount, walkCount, bits, below, entry, entries, tablesRest, walkRest, answer, verdictOf, readAnswer}
 use Rattle.answer.specs.AnswerFound.{bitsPass, entriesPass, tablesPass, walkPass, countOf, asAnswer}
 use Rattle.answer.proofs.Many.{entries-many, many-length}
@@ -116,7 +115,7 @@ module _ (rowsA rowsB combinations : ℕ) (s : List ℕ) where
 
   module _ (n m : ℕ) (h : kindCount rowsA s 0 ≡ got n m) where
     module _ (z : n ≡ 0) where
-      is-walk : readAnswer rowsA rowsB combinations s ≡ verdictOf (walkRest (2 * (rowsA + rowsB)) combinations s m)
+      pub is-walk : readAnswer rowsA rowsB combinations s ≡ verdictOf (walkRest (2 * (rowsA + rowsB)) combinations s m)
       unfolding readAnswer answer
       is-walk = rw (h, eq-eqb n 0 z)
 
@@ -133,7 +132,7 @@ module _ (rowsA rowsB combinations : ℕ) (s : List ℕ) where
           sym (ap asAnswer (is-walk ∙ ap verdictOf (i .2) ∙ ap answered (es .1)) ∙ ap Walk long)
 
     module _ (z : n ≡ 0 → ⊥) where
-      is-tables : readAnswer rowsA rowsB combinations s ≡ verdictOf (tablesRest rowsA rowsB s m)
+      pub is-tables : readAnswer rowsA rowsB combinations s ≡ verdictOf (tablesRest rowsA rowsB s m)
       unfolding readAnswer answer
       is-tables = rw (h, ne-eqb n 0 z)
 

@@ -9,7 +9,7 @@ use lib.Dec.{leb}
 use lib.ListN.{length}
 use Rattle.steps.specs.declared.Refusal.{Refusal}
 use Rattle.sheet.specs.declared.HeadRead.the-variants as headRead
-use Rattle.steps.specs.Step.{Step, got, refused, next, pick}
+use Rattle.steps.specs.Step.{got, refused, pick}
 use Rattle.sheet.specs.Job.{Head}
 use Rattle.steps.specs.Bytes.{byte, word, within, count, wordCount, entries}
 use Rattle.sheet.specs.JobSheet.{countedMask, head, wireLimit, seenLimit, ruleLimit, pinLimit}
