@@ -3,3 +3,4 @@ pub mod Sections
 pub mod Length
 pub mod Runs
 pub mod There
+pub mod Sheets

@@ -1,7 +1,8 @@
 -- What an answered sheet has at its places: s is the sheet, for a board of ra rows of A, rb rows of B and cs combinations.
---     tables-there     a sheet of tables: the counts and where each table stands
---     walk-there       a sheet of a walk: the counts and where each entry stands
---     word-there, exactly-there, bits-there, entries-there       what each step that was found has at its places
+--     tables-there, TablesThere     a sheet of tables: its length, its counts, and where each row stands
+--     walk-there, WalkThere         a sheet of a walk: its length, its counts, and where each entry stands
+--     tables-found, walk-found      the same by sections
+--     word-there, exactly-there, bits-there, entries-there      what a step that was found has at its place
 -- Assumes nothing.
 use mathlib.Core.Path.{_≡_, refl, sym, ap, _∙_}
 use mathlib.Core.Bool.{Bool, true, false, _&&_, _||_}
@@ -13,7 +14,7 @@ use borrow.Author.Tests.{ltb-true, leb-true, eqb-true, eqb-false}
 use lib.Dec.{ltb, leb, eqb}
 use lib.ListN.{length, getD}
 use Rattle.steps.specs.declared.Refusal.{Refusal}
-use Rattle.steps.specs.Step.{Step, got, refused, Reading, next, pick}
+use Rattle.steps.specs.Step.{Step, got, refused, next, pick}
 use Rattle.steps.specs.Bytes.{byte, word, end}
 use Rattle.steps.proofs.Entries.{apart, next-inv, got-inj, byte-is, byte-next, byte-in}
 use Rattle.steps.proofs.Near.{end-there}
@@ -149,7 +150,7 @@ pub record Entries (claims combinations : ℕ) (s : List ℕ) (at n : ℕ) (es :
   pub combination : (i : ℕ) → i < n → entryAt es i .by < combinations
 
 -- one entry e that stands at the place `at`, and the place m after it
-record Four (claims combinations : ℕ) (s : List ℕ) (at : ℕ) (e : Entry) (m : ℕ) : Type 0 where
+pub record Four (claims combinations : ℕ) (s : List ℕ) (at : ℕ) (e : Entry) (m : ℕ) : Type 0 where
   pub after : m ≡ at + 4
   pub room : m ≤ length s
   pub says : getD s at 0 + 256 * getD s (at + 1) 0 ≡ e .says
@@ -182,7 +183,7 @@ entry-there claims combinations s at e m h =
       combination = omega (arith, b .0);
     }
 
-entries-none : (claims combinations : ℕ) (s : List ℕ) (at : ℕ) → Entries claims combinations s at 0 [] at
+pub entries-none : (claims combinations : ℕ) (s : List ℕ) (at : ℕ) → Entries claims combinations s at 0 [] at
 entries-none claims combinations s at = record {
   long = refl;
   after = omega arith;
@@ -194,10 +195,10 @@ entries-none claims combinations s at = record {
 }
 
 -- a number of two bytes at equal places
-two-at : (s : List ℕ) (a b c d : ℕ) → a ≡ c → b ≡ d → getD s a 0 + 256 * getD s b 0 ≡ getD s c 0 + 256 * getD s d 0
+pub two-at : (s : List ℕ) (a b c d : ℕ) → a ≡ c → b ≡ d → getD s a 0 + 256 * getD s b 0 ≡ getD s c 0 + 256 * getD s d 0
 two-at s a b c d p q = rw (p, q)
 
-entries-more : (claims combinations : ℕ) (s : List ℕ) (at n : ℕ) (e : Entry) (es : List Entry) (m : ℕ) → Four claims combinations s at e (at + 4)
+pub entries-more : (claims combinations : ℕ) (s : List ℕ) (at n : ℕ) (e : Entry) (es : List Entry) (m : ℕ) → Four claims combinations s at e (at + 4)
     → Entries claims combinations s (at + 4) n es m → Entries claims combinations s at (suc n) (e ∷ es) m
 entries-more claims combinations s at n e es m first rest = record {
   long = ap suc (rest .long);
@@ -278,7 +279,7 @@ differ : (xs ys : List ℕ) (es : List Entry) → tables xs ys ≡ walk es → �
 differ xs ys es h = let z : _≡_ {A = ℕ} 0 1 = cc in omega arith
 
 -- the sections of a sheet of tables from the place `at` on, after the first count
-record TableSections (ra rb : ℕ) (s : List ℕ) (at : ℕ) (xs ys : List ℕ) : Type 0 where
+pub record TableSections (ra rb : ℕ) (s : List ℕ) (at : ℕ) (xs ys : List ℕ) : Type 0 where
   pub rowsA : Rows s at ra xs (at + ra)
   pub countB : Word s (at + ra) rb (at + ra + 2)
   pub rowsB : Rows s (at + ra + 2) rb ys (at + ra + 2 + rb)
@@ -360,7 +361,7 @@ walk-count-there s at v m h =
     (leb-true 1 v (b .0), leb-true v walkLimit (b .1), c .1)
 
 -- the sections of a sheet of a walk from the place `at` on, after the first count
-record WalkSections (claims combinations : ℕ) (s : List ℕ) (at : ℕ) (es : List Entry) : Type 0 where
+pub record WalkSections (claims combinations : ℕ) (s : List ℕ) (at : ℕ) (es : List Entry) : Type 0 where
   pub countB : Word s at 0 (at + 2)
   pub some : 1 ≤ length es
   pub most : length es ≤ walkLimit
@@ -413,7 +414,7 @@ module _ (ra rb cs : ℕ) (s : List ℕ) where
   walk-kind true at es m h = (refl, h)
   walk-kind false at es m h = absurd (not-walk s at ra rb es m h)
 
-  tables-found : (xs ys : List ℕ) → readAnswer ra rb cs s ≡ answered (tables xs ys) → (0 < ra) × Word s 0 ra 2 × TableSections ra rb s 2 xs ys
+  pub tables-found : (xs ys : List ℕ) → readAnswer ra rb cs s ≡ answered (tables xs ys) → (0 < ra) × Word s 0 ra 2 × TableSections ra rb s 2 xs ys
   unfolding readAnswer answer
   tables-found xs ys h =
       let a = answered-inv (answer ra rb cs s 0) (tables xs ys) h in
@@ -430,7 +431,7 @@ module _ (ra rb cs : ℕ) (s : List ℕ) where
       nonzero zero f = absurd (f refl)
       nonzero (suc n) f = omega arith
 
-  walk-found : (es : List Entry) → readAnswer ra rb cs s ≡ answered (walk es) → Word s 0 0 2 × WalkSections (2 * (ra + rb)) cs s 2 es
+  pub walk-found : (es : List Entry) → readAnswer ra rb cs s ≡ answered (walk es) → Word s 0 0 2 × WalkSections (2 * (ra + rb)) cs s 2 es
   unfolding readAnswer answer
   walk-found es h =
       let a = answered-inv (answer ra rb cs s 0) (walk es) h in
