@@ -4,3 +4,10 @@ pub mod Steps
 pub mod Walks
 pub mod Numbered
 pub mod Tests
+pub mod Rules
+pub mod StepCases
+pub mod Lowest
+pub mod Walking
+pub mod Judging
+pub mod Accepting
+pub mod Checked

@@ -15,18 +15,18 @@ use Rattle.board.specs.Walk.{start, Step, fromA, fromB, Among, Goes, Sta
 use Rattle.board.specs.Tests.{allBelow, amongb, fitsb, fromAb, fromBb, stepb, goesb, standsb}
 use Rattle.board.proofs.Finite.{below-suc}
 
-or-cases : (a b : Bool) → a || b ≡ true → (a ≡ true) ⊎ (b ≡ true)
+pub or-cases : (a b : Bool) → a || b ≡ true → (a ≡ true) ⊎ (b ≡ true)
 or-cases true b e = inl refl
 or-cases false b e = inr e
 
-or-left : (a b : Bool) → a ≡ true → a || b ≡ true
+pub or-left : (a b : Bool) → a ≡ true → a || b ≡ true
 or-left a b e = rw e
 
-or-right : (a b : Bool) → b ≡ true → a || b ≡ true
+pub or-right : (a b : Bool) → b ≡ true → a || b ≡ true
 or-right true b e = refl
 or-right false b e = e
 
-and-both : {a b : Bool} → a ≡ true → b ≡ true → a && b ≡ true
+pub and-both : {a b : Bool} → a ≡ true → b ≡ true → a && b ≡ true
 and-both {a} {b} p q = and-eq-true-iff a b .1 (p, q)
 
 and-three : (a b c : Bool) → a && (b && c) ≡ true → (a ≡ true) × (b ≡ true) × (c ≡ true)
@@ -63,6 +63,9 @@ unfolding amongb
 among-from c [] m = absurd m
 among-from c (x ∷ es) (inl e) = or-left (eqb c (x .says)) (amongb c es) (eq-eqb c (x .says) e)
 among-from c (x ∷ es) (inr m) = or-right (eqb c (x .says)) (amongb c es) (among-from c es m)
+
+pub amongb-iff : (c : ℕ) (es : List Entry) → (amongb c es ≡ true) ↔ Among c es
+amongb-iff c es = (among-to c es, among-from c es)
 
 module _ (B : Board) where
   pub fitsb-iff : (T : List ℕ) → (fitsb B T ≡ true) ↔ Fits B T
