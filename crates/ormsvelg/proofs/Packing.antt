@@ -2,18 +2,36 @@
 --     unpack-pack    an outcome of small numbers is found again in its number
 --     read-packs     each outcome of the reader has small numbers
 --     read-found     so it is found again
+--     check-packs, check-found       the same for the checker
 -- Assumes nothing.
 use mathlib.Core.Path.{_≡_, refl, ap}
-use mathlib.Core.List.{List}
+use mathlib.Core.Bool.{Bool, true, false, not}
+use mathlib.Core.List.{List, _++_}
 use Prim.Native.Nat.{ℕ, _+_, _*_, _/_, _%_, _^_, _<_, _≤_}
 use native.Mathlib.Omega.{arith}
+use borrow.Author.Tests.{ltb-true}
+use lib.Dec.{ltb}
+use lib.ListN.{length}
+use lib.Pow.{pow-mono}
 use Rattle.steps.specs.declared.Refusal.{Refusal}
 use Rattle.steps.specs.declared.Refusal.the-variants.{Ends, TooMany, NotRising, TooHigh, LeftOver, OtherKind, NotABit, OutOfRange}
 use Rattle.steps.specs.declared.Outcome.{Outcome}
 use Rattle.sheet.specs.Job.{Verdict, accepted, rejected}
-use Rattle.steps.specs.Outcome.{codeOf, placeOf, success, refusal, refusedJob}
+use Rattle.steps.specs.Step.{pick}
+use Rattle.steps.specs.Outcome.{codeOf, answerCodeOf, placeOf, success, refusal, refusedJob}
 use Rattle.sheet.specs.JobSheet.{readJob, longest, outcomeOf, readOutcome}
 use Rattle.sheet.proofs.Length.{place-small}
+use Rattle.sheet.proofs.Laws.{job-bounds, seen-bounds}
+use Rattle.answer.specs.Answer.{Entry, Answer, tables, walk, AnswerVerdict, answered}
+use Rattle.answer.specs.Answer.{rejected as unanswered}
+use Rattle.answer.specs.AnswerSheet.{readAnswer}
+use Rattle.answer.proofs.There.{walk-there}
+use Rattle.answer.proofs.Length.{place-small as answer-place-small}
+use Rattle.board.specs.Board.{Board, opposite}
+use Rattle.board.specs.Walk.{entry}
+use Rattle.board.specs.Tests.{amongb}
+use Rattle.board.specs.JobBoard.{jobBoard}
+use Rattle.board.specs.Check.{lowest, faultAt, stepAt, tablesAt, walkAt, judgeTables, judgeWalk, judge, judgeSheet, afterJob, checkOutcome}
 use Rattle.ormsvelg.specs.Packed.{pack, unpack, Packs}
 
 module _ (c s p w : ℕ) (hc : c < 2 ^ 8) (hs : s < 2 ^ 8) (hp : p < 2 ^ 24) where
@@ -66,3 +84,63 @@ read-packs s = verdict-packs s (readJob s) refl
 
 pub read-found : (s : List ℕ) → unpack (pack (readOutcome s)) ≡ readOutcome s
 read-found s = unpack-pack (readOutcome s) (read-packs s)
+
+-- ---- the checker
+
+refusal-packs : (c s p : ℕ) → c < 2 ^ 8 → s < 2 ^ 8 → p < 2 ^ 24 → Packs (refusal c s p)
+refusal-packs c s p hc hs hp = record { code = hc; sheet = hs; place = hp; written = omega arith }
+
+success-packs : (c w : ℕ) → c < 2 ^ 8 → w < 2 ^ 24 → Packs (success c w)
+success-packs c w hc hw = record { code = hc; sheet = omega arith; place = omega arith; written = hw }
+
+answer-code-small : (w : Refusal) → answerCodeOf w < 2 ^ 8
+answer-code-small (Ends p) = omega arith
+answer-code-small (TooMany p) = omega arith
+answer-code-small (NotRising p) = omega arith
+answer-code-small (TooHigh p) = omega arith
+answer-code-small (LeftOver p) = omega arith
+answer-code-small (OtherKind p) = omega arith
+answer-code-small (NotABit p) = omega arith
+answer-code-small (OutOfRange p) = omega arith
+
+pick-packs : (b : Bool) (o p : Outcome) → (b ≡ true → Packs o) → Packs p → Packs (pick b o p)
+pick-packs true o p f g = f refl
+pick-packs false o p f g = g
+
+module _ (B : Board) (few : B .combinations ≤ 2 ^ 12) (few-a : B .rowsA ≤ 256) (few-b : B .rowsB ≤ 256) (s : List ℕ) where
+  tables-packs : (m : ℕ) → Packs (tablesAt B m)
+  tables-packs m =
+      pick-packs (ltb m (B .combinations)) (refusal 10 2 m) (success 20 0)
+      (λ e. refusal-packs 10 2 m (omega arith) (omega arith) (omega (arith, ltb-true m (B .combinations) e)))
+      (success-packs 20 0 (omega arith) (omega arith))
+
+  walk-packs : (es : List Entry) (m : ℕ) → length es ≤ 2046 → Packs (walkAt B es m)
+  walk-packs es m l =
+      pick-packs (ltb m (length es)) (refusal 12 2 m) _
+      (λ e. refusal-packs 12 2 m (omega arith) (omega arith) (omega (arith, ltb-true m (length es) e)))
+      (pick-packs (amongb (opposite (entry es 0 .says)) es) (success 21 0) (refusal 13 2 0) (λ e. success-packs 21 0 (omega arith) (omega arith))
+      (refusal-packs 13 2 0 (omega arith) (omega arith) (omega arith)))
+
+  judge-packs : (v : AnswerVerdict) → readAnswer (B .rowsA) (B .rowsB) (B .combinations) s ≡ v → Packs (judge B v)
+  unfolding judgeTables judgeWalk
+  judge-packs (answered (tables xs ys)) e = tables-packs (lowest (faultAt B (xs ++ ys)) (B .combinations))
+  judge-packs (answered (walk es)) e = walk-packs es (lowest (λ i. not (stepAt B es i)) (length es)) (walk-there _ _ _ s es e .walks .most)
+  judge-packs (unanswered w) e =
+      refusal-packs (answerCodeOf w) 2 (placeOf w) (answer-code-small w) (omega arith) (omega (arith, answer-place-small _ _ _ s w few-a few-b e))
+
+after-packs : (job answer : List ℕ) (v : Verdict) → readJob job ≡ v → Packs (afterJob v answer)
+unfolding judgeSheet
+after-packs job answer (accepted j) e =
+    let b = job-bounds job j e in
+    let m = seen-bounds job j e in
+    judge-packs (jobBoard j) (pow-mono (b .0)) (pow-mono (m .0)) (pow-mono (m .1)) answer
+    (readAnswer (jobBoard j .rowsA) (jobBoard j .rowsB) (jobBoard j .combinations) answer) refl
+after-packs job answer (rejected w) e =
+    refusal-packs (codeOf w) 1 (placeOf w) (code-small w) (omega arith) (omega (arith, place-small job w e))
+
+pub check-packs : (job answer : List ℕ) → Packs (checkOutcome job answer)
+unfolding checkOutcome
+check-packs job answer = after-packs job answer (readJob job) refl
+
+pub check-found : (job answer : List ℕ) → unpack (pack (checkOutcome job answer)) ≡ checkOutcome job answer
+check-found job answer = unpack-pack (checkOutcome job answer) (check-packs job answer)

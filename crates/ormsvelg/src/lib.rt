@@ -4,6 +4,7 @@
 use steps::Outcome;
 ghost use mathlib.Core.Path.{_≡_};
 ghost use Rattle.sheet.specs.JobSheet.{readOutcome};
+ghost use Rattle.board.specs.Check.{checkOutcome};
 ghost use Rattle.ormsvelg.specs.Packed.{pack, Packs};
 
 // The four numbers of an outcome in one.
@@ -23,4 +24,12 @@ pub extern "C" fn ormsvelg_read(job: &[u8]) -> u64
     ensures { λ r. ⌜ r ≡ pack (readOutcome (now (job .entry))) ⌝ }
 {
     packed(sheet::read_sheet(job))
+}
+
+// The outcome of checking an answer sheet against a job sheet.
+#[no_mangle]
+pub extern "C" fn ormsvelg_check(job: &[u8], answer: &[u8]) -> u64
+    ensures { λ r. ⌜ r ≡ pack (checkOutcome (now (job .entry)) (now (answer .entry))) ⌝ }
+{
+    packed(board::check::check(job, answer))
 }
