@@ -28,18 +28,19 @@ fn double(rows: &mut [u8], size: usize, step: u8)
 }
 
 // Fills the row that each combination shows to a cell that sees the wires of `seen`: wire by wire from the lowest, each
-// doubling what is there; a seen wire adds its weight.
+// doubling what is there; a seen wire adds its weight. The weight fits a byte at each wire that adds it, and is 256 after the
+// eighth of these.
 pub fn fill_rows(wires: u32, seen: u32, rows: &mut [u8])
     requires { ⌜ Asks wires seen (now rows) ⌝ }
     ensures { λ _. ⌜ Rows wires seen (now (rows .entry)) (now (rows .exit)) ⌝ }
 {
     rows[0] = 0;
     let mut size: usize = 1;
-    let mut weight: u8 = 1;
+    let mut weight: u32 = 1;
     let mut p: u32 = 0;
     while p < wires {
         if (seen >> p) % 2 == 1 {
-            double(rows, size, weight);
+            double(rows, size, weight as u8);
             weight = weight * 2;
         } else {
             double(rows, size, 0);

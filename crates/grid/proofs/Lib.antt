@@ -1,0 +1,2 @@
+pub mod Doubling
+pub mod Fours
