@@ -22,7 +22,6 @@ use steps::refused_job;
 use steps::succeeded;
 use wires::Claim;
 use wires::row_count;
-
 ghost use mathlib.Core.Path.{_≡_};
 ghost use mathlib.Core.List.{_++_};
 ghost use Prim.Native.Nat.{_+_, _*_, _/_, _≤_};

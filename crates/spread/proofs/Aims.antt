@@ -1,0 +1,86 @@
+-- The two claims at which a look aims are the ends of all steps from its claim by its combination.
+-- Assumes nothing.
+use Prim.Native.Nat.{ℕ, _+_, _*_, _-_, _/_, _%_, _<_}
+use mathlib.Core.Path.{_≡_}
+use mathlib.Core.Logic.{_⊎_, inl, inr, ⊎-elim}
+use native.Mathlib.Decide.{ℕ-discrete}
+use native.Mathlib.Omega.{arith}
+use Rattle.grid.specs.Grid.{Grid, claims, shown-a, shown-b, fault, Sound, bit}
+use Rattle.spread.specs.Steps.{Shown, Step, Aimed}
+use Rattle.spread.specs.Steps.Step.{a-to-b, b-to-a}
+use Rattle.spread.proofs.Sizes.{in-a, in-b}
+
+pub step-within : {g : Grid} {l m a : ℕ} → Step g l m a → a < g .shape .combinations
+step-within (a-to-b w l m f) = w
+step-within (b-to-a w l m f) = w
+
+-- a claim with a step by a is shown by a
+pub step-shown : {g : Grid} {l m a : ℕ} → Step g l m a → Shown (g .shape .«rows_a») (shown-a g a) (shown-b g a) l
+step-shown (a-to-b w l m f) = inl l
+step-shown (b-to-a w l m f) = inr l
+
+-- a shown claim is one of the board's
+pub shown-below : {g : Grid} {l a : ℕ} → Sound g → a < g .shape .combinations → Shown (g .shape .«rows_a») (shown-a g a) (shown-b g a) l → l < claims g
+shown-below {a = a} ok w s = ⊎-elim (λ e. omega (arith, in-a ok a w)) (λ e. omega (arith, in-b ok a w)) s
+
+-- each step from l by a leads to `base`, with bit `low` set, or to the next claim, with bit `high` set
+abbrev pub Ends : Grid → ℕ → ℕ → ℕ → ℕ → ℕ → Type 0
+Ends g l a base low high =
+    (m : ℕ) → Step g l m a → ((m ≡ base) × (bit (fault g a) low ≡ 1)) ⊎ ((m ≡ base + 1) × (bit (fault g a) high ≡ 1))
+
+pub record Aims (g : Grid) (l a base low high : ℕ) : Type 0 where
+  pub inside : base + 1 < claims g
+  pub small-low : low < 8
+  pub small-high : high < 8
+  pub at-low : bit (fault g a) low ≡ 1 → Step g l base a
+  pub at-high : bit (fault g a) high ≡ 1 → Step g l (base + 1) a
+  pub all : Ends g l a base low high
+
+-- a claim of row r is the row's claim 0 or the next
+two : (r base m : ℕ) → base ≡ 2 * r → m / 2 ≡ r → ((m ≡ base) × (m % 2 ≡ 0)) ⊎ ((m ≡ base + 1) × (m % 2 ≡ 1))
+two r base m e h = go (ℕ-discrete (m % 2) 0)
+  where
+    go : Dec (m % 2 ≡ 0) → ((m ≡ base) × (m % 2 ≡ 0)) ⊎ ((m ≡ base + 1) × (m % 2 ≡ 1))
+    go (yes z) = inl (omega arith)
+    go (no z) = inr (omega arith)
+
+moved : (f i j : ℕ) → bit f i ≡ 1 → i ≡ j → bit f j ≡ 1
+moved f i j h e = rw e at h
+
+module _ {g : Grid} {l a base low high : ℕ} (ok : Sound g) (w : a < g .shape .combinations) where
+  ends-a : l / 2 ≡ shown-a g a → base ≡ 2 * (g .shape .«rows_a» + shown-b g a) → low ≡ 2 * (l % 2) + 1 → high ≡ 2 * (l % 2) → Ends g l a base low high
+  ends-a e p q r m (a-to-b _ _ n f) =
+      ⊎-elim (λ z. inl (z .0, moved (fault g a) (2 * (l % 2) + (1 - m % 2)) low f (omega arith)))
+      (λ z. inr (z .0, moved (fault g a) (2 * (l % 2) + (1 - m % 2)) high f (omega arith)))
+      (two (g .shape .«rows_a» + shown-b g a) base m p n)
+  ends-a e p q r m (b-to-a _ n _ _) = absurd (omega (arith, in-a ok a w))
+
+  aims-a : l / 2 ≡ shown-a g a → (base ≡ 2 * (g .shape .«rows_a» + shown-b g a)) × (low ≡ 2 * (l % 2) + 1) × (high ≡ 2 * (l % 2)) → Aims g l a base low high
+  aims-a e q = record {
+    inside = omega (arith, in-b ok a w);
+    small-low = omega arith;
+    small-high = omega arith;
+    at-low = λ f. a-to-b w e (omega arith) (moved (fault g a) low (2 * (l % 2) + (1 - base % 2)) f (omega arith));
+    at-high = λ f. a-to-b w e (omega arith) (moved (fault g a) high (2 * (l % 2) + (1 - (base + 1) % 2)) f (omega arith));
+    all = ends-a e (q .0) (q .1) (q .2);
+  }
+
+  ends-b : l / 2 ≡ g .shape .«rows_a» + shown-b g a → base ≡ 2 * shown-a g a → low ≡ 2 + l % 2 → high ≡ l % 2 → Ends g l a base low high
+  ends-b e p q r m (b-to-a _ _ n f) =
+      ⊎-elim (λ z. inl (z .0, moved (fault g a) (2 * (1 - m % 2) + l % 2) low f (omega arith)))
+      (λ z. inr (z .0, moved (fault g a) (2 * (1 - m % 2) + l % 2) high f (omega arith)))
+      (two (shown-a g a) base m p n)
+  ends-b e p q r m (a-to-b _ n _ _) = absurd (omega (arith, in-a ok a w))
+
+  aims-b : l / 2 ≡ g .shape .«rows_a» + shown-b g a → (base ≡ 2 * shown-a g a) × (low ≡ 2 + l % 2) × (high ≡ l % 2) → Aims g l a base low high
+  aims-b e q = record {
+    inside = omega (arith, in-a ok a w);
+    small-low = omega arith;
+    small-high = omega arith;
+    at-low = λ f. b-to-a w e (omega arith) (moved (fault g a) low (2 * (1 - base % 2) + l % 2) f (omega arith));
+    at-high = λ f. b-to-a w e (omega arith) (moved (fault g a) high (2 * (1 - (base + 1) % 2) + l % 2) f (omega arith));
+    all = ends-b e (q .0) (q .1) (q .2);
+  }
+
+  pub aims : Aimed (g .shape .«rows_a») (shown-a g a) (shown-b g a) l base low high → Shown (g .shape .«rows_a») (shown-a g a) (shown-b g a) l → Aims g l a base low high
+  aims d s = ⊎-elim (λ e. aims-a e (d .from-a (omega (arith, in-a ok a w)))) (λ e. aims-b e (d .from-b (omega arith))) s
