@@ -1,4 +1,3 @@
--- The laws that the proofs of several functions cite.
 pub mod Sizes
 pub mod Marks
 pub mod Laws

@@ -1,9 +1,7 @@
 -- What the sizes of a sound grid come to: each combination shows a row that the cell has, and there are at most 16,384 combinations.
 -- Assumes nothing.
 use Prim.Native.Nat.{ℕ, _^_, _<_, _≤_}
-use mathlib.Core.Path.{_≡_}
 use native.Mathlib.Omega.{arith}
-use lib.Count.{ones}
 use lib.Pow.{pow-mono}
 use Rattle.wires.proofs.Rows.{row-below}
 use Rattle.board.specs.Board.{Shows}

@@ -13,7 +13,7 @@ use mathlib.Core.Logic.{_⊎_}
 use mathlib.Core.List.{List}
 use lib.Dec.{eqb, ltb}
 use lib.ListN.{length, getD, set}
-use Rattle.grid.specs.Grid.{Grid, claims, shown-a, shown-b, bit, Sound}
+use Rattle.grid.specs.Grid.{Grid, claims, shown-a, shown-b, Sound}
 use Rattle.spread.specs.Steps.{Shown, Step}
 
 pub record Store : Type 0 where
