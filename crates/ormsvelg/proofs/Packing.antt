@@ -3,8 +3,9 @@
 --     read-packs     each outcome of the reader has small numbers
 --     read-found     so it is found again
 --     check-packs, check-found       the same for the checker
+--     solve-packs, solve-found       and for the solver
 -- Assumes nothing.
-use mathlib.Core.Path.{_≡_, refl, ap}
+use mathlib.Core.Path.{_≡_, refl, sym, ap, subst, _∙_}
 use mathlib.Core.Bool.{Bool, true, false, not}
 use mathlib.Core.List.{List, _++_}
 use Prim.Native.Nat.{ℕ, _+_, _*_, _/_, _%_, _^_, _<_, _≤_}
@@ -32,6 +33,10 @@ use Rattle.board.specs.Walk.{entry}
 use Rattle.board.specs.Tests.{amongb}
 use Rattle.board.specs.JobBoard.{jobBoard}
 use Rattle.board.specs.Check.{lowest, faultAt, stepAt, tablesAt, walkAt, judgeTables, judgeWalk, judge, judgeSheet, afterJob, checkOutcome}
+use Rattle.answer.specs.Written.{tablesSheet, walkSheet}
+use Rattle.answer.proofs.Sheets.{tables-length, walk-length}
+use Rattle.solver.specs.Solved.{SolvedOn, Solved, refused, noRoom, solved}
+use Rattle.solver.specs.Solved.SolvedOn as onBoard
 use Rattle.ormsvelg.specs.Packed.{pack, unpack, Packs}
 
 module _ (c s p w : ℕ) (hc : c < 2 ^ 8) (hs : s < 2 ^ 8) (hp : p < 2 ^ 24) where
@@ -144,3 +149,23 @@ check-packs job answer = after-packs job answer (readJob job) refl
 
 pub check-found : (job answer : List ℕ) → unpack (pack (checkOutcome job answer)) ≡ checkOutcome job answer
 check-found job answer = unpack-pack (checkOutcome job answer) (check-packs job answer)
+
+-- ---- the solver
+
+on-packs : (B : Board) (entry : List ℕ) (o : Outcome) (exit : List ℕ) → B .rowsA ≤ 256 → B .rowsB ≤ 256 → SolvedOn B entry o exit → Packs o
+on-packs B entry o exit la lb (onBoard.tables xs ys p f e w) =
+    rw e (success-packs 20 (length (tablesSheet xs ys)) (omega arith) (omega (arith, tables-length xs ys, p .longA, p .longB)))
+on-packs B entry o exit la lb (onBoard.walk es p st l e w) =
+    rw e (success-packs 21 (length (walkSheet es)) (omega arith) (omega (arith, walk-length es, p .most)))
+
+pub solve-packs : {job entry : List ℕ} {o : Outcome} {exit : List ℕ} → Solved job entry o exit → Packs o
+solve-packs {job} {entry} {o} {exit} (refused w e p q) =
+    rw p (refusal-packs (codeOf w) 1 (placeOf w) (code-small w) (omega arith) (omega (arith, place-small job w e)))
+solve-packs {job} {entry} {o} {exit} (noRoom j e l p q) = rw p (refusal-packs 6 0 0 (omega arith) (omega arith) (omega arith))
+solve-packs {job} {entry} {o} {exit} (solved j e l s) =
+    let m = seen-bounds job j e in
+    on-packs (jobBoard j) entry o exit (pow-mono (m .0)) (pow-mono (m .1)) s
+
+pub solve-found : (job entry : List ℕ) (o : Outcome) (exit : List ℕ) (r : ℕ) → r ≡ pack o → Solved job entry o exit → Solved job entry (unpack r) exit
+solve-found job entry o exit r e s =
+    subst (λ (x : Outcome). Solved job entry x exit) (sym (ap unpack e ∙ unpack-pack o (solve-packs s))) s

@@ -5,7 +5,8 @@ use steps::Outcome;
 ghost use mathlib.Core.Path.{_≡_};
 ghost use Rattle.sheet.specs.JobSheet.{readOutcome};
 ghost use Rattle.board.specs.Check.{checkOutcome};
-ghost use Rattle.ormsvelg.specs.Packed.{pack, Packs};
+ghost use Rattle.solver.specs.Solved.{Solved};
+ghost use Rattle.ormsvelg.specs.Packed.{pack, unpack, Packs};
 
 // The four numbers of an outcome in one.
 fn packed(o: Outcome) -> u64
@@ -32,4 +33,12 @@ pub extern "C" fn ormsvelg_check(job: &[u8], answer: &[u8]) -> u64
     ensures { λ r. ⌜ r ≡ pack (checkOutcome (now (job .entry)) (now (answer .entry))) ⌝ }
 {
     packed(board::check::check(job, answer))
+}
+
+// The outcome of solving a job sheet; on success one answer sheet is at the front of the lent buffer.
+#[no_mangle]
+pub extern "C" fn ormsvelg_solve(job: &[u8], answer: &mut [u8]) -> u64
+    ensures { λ r. ⌜ Solved (now (job .entry)) (now (answer .entry)) (unpack r) (now (answer .exit)) ⌝ }
+{
+    packed(solver::solve(job, answer))
 }

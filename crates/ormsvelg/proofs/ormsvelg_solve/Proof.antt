@@ -1,0 +1,17 @@
+-- `ormsvelg::ormsvelg_solve` meets its contract: what the solver answers fits its number, and is found again in it. Assumes nothing.
+use borrow.Author.Needs.{needs}
+use Rattle.ormsvelg.proofs.Packing.{solve-packs, solve-found}
+use Rattle.ormsvelg.proofs.ormsvelg_solve.Statement.{statement}
+use Rattle.ormsvelg.proofs.ormsvelg_solve.Tie as tie
+
+solve-requires : tie.Need-solve-requires
+solve-requires c κs = search needs
+
+packed-requires : tie.Need-packed-requires
+packed-requires c κs = solve-packs (c .solve .ensures)
+
+returns : tie.Need-returns
+returns c = solve-found _ _ _ _ _ (c .packed .ensures) (c .before .solve .ensures)
+
+pub ormsvelg-solve-spec : {M : Type 1} → statement M
+ormsvelg-solve-spec = tie.close (tie.spec solve-requires packed-requires returns)
