@@ -120,6 +120,7 @@ fn settle(
         return 0;
     }
     let zero = (2 * row) as u16;
+    let one = zero + 1;
     let middle = attempt(
         shape,
         row_a,
@@ -142,7 +143,7 @@ fn settle(
         row_a,
         row_b,
         faults,
-        Claim(zero + 1),
+        Claim(one),
         reached,
         queue,
         from,

@@ -2,12 +2,13 @@
 use mathlib.Core.Path.{_≡_, sym, ap, ap₂, _∙_}
 use mathlib.Core.Logic.{⊎-elim}
 use Prim.Native.Nat.{ℕ, zero, suc, _+_, _-_, _*_, _/_, _%_, _^_, _<_}
+use native.Mathlib.Nat.{pow-suc}
 use native.Mathlib.Omega.{arith}
 use lib.Bits.{bitAnd, and-step, and-self, and-le-r}
 use lib.Count.{ones, ones-step, trailingZeros, under}
-use Rattle.wires.specs.Wires.{wire, shown}
+use Rattle.wires.specs.Wires.{wire, shown, placed}
 use Rattle.wires.proofs.Digits.{low-digit, wire-low, wire-high, half-below}
-use Rattle.wires.proofs.Rows.{shown-on, shown-off}
+use Rattle.wires.proofs.Rows.{shown-on, shown-off, placed-on, placed-off}
 
 -- the mask without its lowest wire
 abbrev pub rest : ℕ → ℕ
@@ -42,6 +43,24 @@ trailing-below (suc n) s l h =
     ⊎-elim (λ e. omega (arith, trailing-off n s e, trailing-below n (s / 2) (omega arith) (half-below n h)))
     (λ e. omega (arith, trailing-on n s e))
     (low-digit s)
+
+trailing-twice : (n s : ℕ) → trailingZeros (suc n) (s * 2) ≡ suc (trailingZeros n s)
+trailing-twice n s = trailing-off n (s * 2) (omega arith) ∙ ap (λ (x : ℕ). suc (trailingZeros n x)) half
+  where
+    half : s * 2 / 2 ≡ s
+    half = omega arith
+
+-- every other wire of the mask is above the lowest
+pub trailing-rest : (n s : ℕ) → 0 < s → s < 2 ^ n → trailingZeros n s < trailingZeros n (rest s)
+trailing-rest zero s l h = omega arith
+trailing-rest (suc n) s l h =
+    ⊎-elim
+    (λ e. omega (arith, trailing-off n s e, among (rest (s / 2)) (rest-off s e l), trailing-rest n (s / 2) (omega arith) (half-below n h)))
+    (λ e. omega (arith, trailing-on n s e, among (s / 2) (rest-on s e)))
+    (low-digit s)
+  where
+    among : (t : ℕ) → rest s ≡ t * 2 → trailingZeros (suc n) (rest s) ≡ suc (trailingZeros n t)
+    among t e = ap (trailingZeros (suc n)) e ∙ trailing-twice n t
 
 pub ones-rest : (n s : ℕ) → 0 < s → s < 2 ^ n → ones s ≡ suc (ones (rest s))
 ones-rest zero s l h = omega arith
@@ -84,3 +103,27 @@ shown-lowest (suc n) s a l h =
     (sym (ap (λ (x : ℕ). shown (suc n) x a) (rest-on s e) ∙ shown-twice n (s / 2) a))
     (sym (ap (wire a) (trailing-on n s e) ∙ wire-low a)))
     (low-digit s)
+
+placed-twice : (n s row : ℕ) → placed (suc n) (s * 2) row ≡ placed n s row * 2
+placed-twice n s row = omega (arith, placed-off n (s * 2) row (omega arith), ap (λ (x : ℕ). placed n x row) half)
+  where
+    half : s * 2 / 2 ≡ s
+    half = omega arith
+
+-- the lowest wire gets the lowest digit of the row, the wires above it the others
+pub placed-lowest : (n s row : ℕ) → 0 < s → s < 2 ^ n → placed n s row ≡ placed n (rest s) (row / 2) + row % 2 * 2 ^ trailingZeros n s
+placed-lowest zero s row l h = omega arith
+placed-lowest (suc n) s row l h =
+    ⊎-elim
+    (λ e. omega (arith, placed-off n s row e, placed-lowest n (s / 2) row (omega arith) (half-below n h), above (rest (s / 2)) (rest-off s e l), weight-off e))
+    (λ e. omega (arith, placed-on n s row e, above (s / 2) (rest-on s e), weight-on e))
+    (low-digit s)
+  where
+    above : (t : ℕ) → rest s ≡ t * 2 → placed (suc n) (rest s) (row / 2) ≡ placed n t (row / 2) * 2
+    above t e = ap (λ (x : ℕ). placed (suc n) x (row / 2)) e ∙ placed-twice n t (row / 2)
+
+    weight-off : s % 2 ≡ 0 → row % 2 * 2 ^ trailingZeros (suc n) s ≡ row % 2 * (2 ^ trailingZeros n (s / 2) * 2)
+    weight-off e = ap (λ (x : ℕ). row % 2 * x) (ap (λ (k : ℕ). 2 ^ k) (trailing-off n s e) ∙ pow-suc 2 (trailingZeros n (s / 2)))
+
+    weight-on : s % 2 ≡ 1 → row % 2 * 2 ^ trailingZeros (suc n) s ≡ row % 2 * 1
+    weight-on e = ap (λ (k : ℕ). row % 2 * 2 ^ k) (trailing-on n s e)

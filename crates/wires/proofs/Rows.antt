@@ -1,5 +1,6 @@
 -- The laws of `shown`: a row is below 2 to the number of the wires seen, and is the same for two combinations exactly where they agree on those wires;
--- each row below that number is shown by some combination; who sees more wires can tell the row of who sees fewer. Assumes nothing.
+-- each row below that number is shown by some combination, the lowest of which is `placed`; who sees more wires can tell the row of who sees fewer.
+-- Assumes nothing.
 use mathlib.Core.Path.{_≡_, refl, sym, ap, _∙_}
 use mathlib.Core.Logic.{⊎-elim, by-cases}
 use Prim.Native.Nat.{ℕ, zero, suc, _+_, _*_, _/_, _%_, _^_, _<_, _≤_, suc-le-suc}
@@ -75,11 +76,11 @@ same-wires (suc n) seen a b h (suc p) l s =
 
 -- ---- every row is shown
 
-placed-off : (n seen row : ℕ) → seen % 2 ≡ 0 → placed (suc n) seen row ≡ placed n (seen / 2) row * 2 + 0
+pub placed-off : (n seen row : ℕ) → seen % 2 ≡ 0 → placed (suc n) seen row ≡ placed n (seen / 2) row * 2 + 0
 unfolding placed
 placed-off n seen row e = ap (λ (d : ℕ). placed n (seen / 2) (after d row) * 2 + taken d row) e
 
-placed-on : (n seen row : ℕ) → seen % 2 ≡ 1 → placed (suc n) seen row ≡ placed n (seen / 2) (row / 2) * 2 + row % 2
+pub placed-on : (n seen row : ℕ) → seen % 2 ≡ 1 → placed (suc n) seen row ≡ placed n (seen / 2) (row / 2) * 2 + row % 2
 unfolding placed
 placed-on n seen row e = ap (λ (d : ℕ). placed n (seen / 2) (after d row) * 2 + taken d row) e
 
@@ -115,6 +116,16 @@ shown-placed (suc n) seen row hs hr =
 pub every-row : (n seen row : ℕ) → seen < 2 ^ n → row < 2 ^ ones seen → (a : ℕ) × (a < 2 ^ n) × (shown n seen a ≡ row)
 every-row n seen row hs hr = (placed n seen row, placed-below n seen row, shown-placed n seen row hs hr)
 
+-- no lower combination shows the row
+pub placed-least : (n seen row a : ℕ) → seen < 2 ^ n → a < 2 ^ n → shown n seen a ≡ row → placed n seen row ≤ a
+unfolding placed
+placed-least zero seen row a hs ha h = omega arith
+placed-least (suc n) seen row a hs ha h =
+    let ih : (r : ℕ) → shown n (seen / 2) (a / 2) ≡ r → placed n (seen / 2) r ≤ a / 2 = λ r. placed-least n (seen / 2) r (a / 2) (half-below n hs) (half-below n ha) in
+    ⊎-elim (λ e. omega (arith, placed-off n seen row e, ih row (sym (shown-off n seen a e) ∙ h)))
+    (λ e. let s = shown-on n seen a e in omega (arith, placed-on n seen row e, ih (row / 2) (omega arith)))
+    (low-digit seen)
+
 -- ---- who sees more
 
 pub seen-also : (few more p : ℕ) → bitAnd few more ≡ few → wire few p ≡ 1 → wire more p ≡ 1
@@ -130,7 +141,7 @@ narrowed n few more hm h = (
   λ a. wider n few more a (placed n more (shown n more a)) h (sym (shown-placed n more (shown n more a) hm (row-below n more a))),
 )
 
--- ---- positions above the mask show nothing
+-- ---- positions above the mask show nothing, and have 0
 
 pub shown-none : (m a : ℕ) → shown m 0 a ≡ 0
 unfolding shown
@@ -156,3 +167,22 @@ shown-more (suc n) (suc m) seen a l h =
 -- so any number of positions that holds the mask shows the same
 pub shown-any : (n m seen a : ℕ) → seen < 2 ^ n → seen < 2 ^ m → shown m seen a ≡ shown n seen a
 shown-any n m seen a hn hm = by-cases (decLe n m) (λ l. shown-more n m seen a l hn) (λ g. sym (shown-more m n seen a (omega arith) hm))
+
+pub placed-none : (n row : ℕ) → placed n 0 row ≡ 0
+unfolding placed
+placed-none zero row = refl
+placed-none (suc n) row = omega (arith, placed-off n 0 row refl, placed-none n row)
+
+pub placed-more : (n m seen row : ℕ) → n ≤ m → seen < 2 ^ n → placed m seen row ≡ placed n seen row
+unfolding placed
+placed-more zero m seen row l h = ap (λ (s : ℕ). placed m s row) (lt-one h) ∙ placed-none m row
+placed-more (suc n) zero seen row l h = absurd (not-suc-le-zero l)
+placed-more (suc n) (suc m) seen row l h =
+    let ih : (r : ℕ) → placed m (seen / 2) r ≡ placed n (seen / 2) r = λ r. placed-more n m (seen / 2) r (le-of-suc-le-suc l) (half-below n h) in
+    ⊎-elim (λ e. omega (arith, placed-off m seen row e, ih row, placed-off n seen row e))
+    (λ e. omega (arith, placed-on m seen row e, ih (row / 2), placed-on n seen row e))
+    (low-digit seen)
+
+-- so any number of positions that holds the mask gives the same combination
+pub placed-any : (n m seen row : ℕ) → seen < 2 ^ n → seen < 2 ^ m → placed m seen row ≡ placed n seen row
+placed-any n m seen row hn hm = by-cases (decLe n m) (λ l. placed-more n m seen row l hn) (λ g. sym (placed-more m n seen row (omega arith) hm))

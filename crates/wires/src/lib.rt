@@ -6,7 +6,7 @@ ghost use mathlib.Core.Bool.{true};
 ghost use mathlib.Core.Logic.{_↔_};
 ghost use Prim.Native.Nat.{ℕ, _-_, _^_, _<_};
 ghost use lib.Count.{ones};
-ghost use Rattle.wires.specs.Wires.{shown};
+ghost use Rattle.wires.specs.Wires.{shown, placed};
 ghost use Rattle.wires.specs.Terms.{Setting, Truths, Meets};
 
 // Claim 2r says that row r holds 0, claim 2r + 1 that it holds 1; rows of A come first, then rows of B.
@@ -38,6 +38,23 @@ pub fn row_shown(seen: u32, a: u32) -> u32
         left = left & (left - 1);
     }
     row
+}
+
+// The lowest combination that shows the row `row` to a cell that sees the wires of `seen`: the row's digits go to the seen wires,
+// the lowest first, and every other wire has 0.
+pub fn row_placed(seen: u32, row: u32) -> u32
+    ensures { λ r. ⌜ ((n : ℕ) → seen < 2 ^ n → r ≡ placed n seen row) ⌝ }
+{
+    let mut left = seen;
+    let mut rest = row;
+    let mut a: u32 = 0;
+    while left != 0 {
+        let p = u32::trailing_zeros(left);
+        a = a | ((rest % 2) << p);
+        rest = rest / 2;
+        left = left & (left - 1);
+    }
+    a
 }
 
 // The digits of the two terms of a variable: the plain one is true where the value is 1, the negated one where it is 0.
