@@ -26,6 +26,9 @@ mul-zero c = search needs
 cast-zero : tie.Need-cast-zero
 cast-zero c = search needs
 
+add-one : tie.Need-add-one
+add-one c = let p = start c .pre in omega (arith, p .row, p .sound .sizes .few-a, p .sound .sizes .few-b)
+
 attempt-requires : tie.Need-attempt-requires
 attempt-requires c κs = let s = c .before .before .before .before .before .before in first-asks (start s .pre) (s .if1 .left)
 
@@ -49,9 +52,6 @@ same-length-6 c = search needs
 
 returns-2 : tie.Need-returns-2
 returns-2 c = first-settles (c .before .before .before .before .before .before .before .before .before .before .before .before .before .before .before .before .before .before .before .before .before .before .before .before .before .before .before .before .before .before .before .pre) (c .before .before .before .before .before .before .before .before .before .before .before .before .before .attempt .ensures) (c .if2 .taken)
-
-add-t31 : tie.Need-add-t31
-add-t31 c = let p = start (unsettled c) .pre in omega (arith, p .row, p .sound .sizes .few-a, p .sound .sizes .few-b)
 
 attempt-requires-2 : tie.Need-attempt-requires-2
 attempt-requires-2 c κs =
@@ -91,6 +91,7 @@ settle-spec =
     returns
     mul-zero
     cast-zero
+    add-one
     attempt-requires
     same-length
     same-length-2
@@ -99,7 +100,6 @@ settle-spec =
     same-length-5
     same-length-6
     returns-2
-    add-t31
     attempt-requires-2
     same-length-7
     same-length-8
