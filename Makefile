@@ -35,7 +35,7 @@ build/host-test: host/test.c include/ormsvelg.h tools/x86 $(LIBRARY)
 
 build/host-test-sanitized: host/test.c include/ormsvelg.h tools/x86 $(LIBRARY)
 	@mkdir -p build
-	$(HOST) -g -fsanitize=address,undefined -fno-sanitize-recover=all -o $@ host/test.c $(LIBRARY)
+	$(HOST) -O0 -g -fsanitize=address,undefined -fno-sanitize-recover=all -o $@ host/test.c $(LIBRARY)
 
 host-test: build/host-test
 	tools/x86 run build/host-test
