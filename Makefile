@@ -1,6 +1,7 @@
 # Ormsvelg: what there is to run. Build outputs go to build/, what rt proves and writes to target/.
 #   make test                       the whole gate, .ci/run
 #   make read JOB=FILE              what the reader says of a job sheet, in words
+#   make check JOB=FILE ANSWER=FILE what the checker says of an answer sheet for a job sheet, in words
 #   make host-test                  the C tests over the static library
 #   make compare SEED=1 COUNT=200000  random cases against the independent second program
 #   make speed                      the library's times against plain C's, native
@@ -13,7 +14,7 @@ C = -std=c11 -Wall -Wextra -Werror
 HOST = tools/x86 cc $(C) -O2 -Iinclude
 PROVED = crates.txt $(shell find crates -name '*.rt' -o -name '*.antt')
 
-.PHONY: test read host-test host-test-sanitized compare speed clean
+.PHONY: test read check host-test host-test-sanitized compare speed clean
 
 test:
 	.ci/run
@@ -21,13 +22,17 @@ test:
 $(LIBRARY): $(PROVED)
 	rt staticlib ormsvelg
 
-build/read: host/read.c include/ormsvelg.h tools/x86 $(LIBRARY)
+build/read build/check: build/%: host/%.c host/sheet.h include/ormsvelg.h tools/x86 $(LIBRARY)
 	@mkdir -p build
-	$(HOST) -o $@ host/read.c $(LIBRARY)
+	$(HOST) -o $@ host/$*.c $(LIBRARY)
 
 read: build/read
 	@test -n "$(JOB)" || { echo "usage: make read JOB=FILE"; exit 2; }
 	@tools/x86 run build/read "$(JOB)" || [ $$? -eq 1 ]
+
+check: build/check
+	@test -n "$(JOB)" && test -n "$(ANSWER)" || { echo "usage: make check JOB=FILE ANSWER=FILE"; exit 2; }
+	@tools/x86 run build/check "$(JOB)" "$(ANSWER)" || [ $$? -eq 1 ]
 
 build/host-test: host/test.c include/ormsvelg.h tools/x86 $(LIBRARY)
 	@mkdir -p build
