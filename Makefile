@@ -1,9 +1,10 @@
 # Ormsvelg: what there is to run. Build outputs go to build/, what rt proves and writes to target/.
-#   make test                       the whole gate, .ci/run
-#   make read JOB=FILE              what the reader says of a job sheet, in words
-#   make host-test                  the C tests over the static library
-#   make compare SEED=1 COUNT=200000  random cases against the independent second program
-#   make speed                      the library's times against plain C's, native
+#   make test                         the whole gate, .ci/run
+#   make read JOB=FILE                what the reader says of a job sheet, in words
+#   make check JOB=FILE ANSWER=FILE   what the checker says of an answer sheet for a job sheet, in words
+#   make host-test                    the C tests over the static library
+#   make compare SEED=1 COUNT=200000  random cases of each call against the independent second program
+#   make speed                        the library's times against plain C and C++, native
 
 SEED ?= 1
 COUNT ?= 200000
@@ -13,7 +14,7 @@ C = -std=c11 -Wall -Wextra -Werror
 HOST = tools/x86 cc $(C) -O2 -Iinclude
 PROVED = crates.txt $(shell find crates -name '*.rt' -o -name '*.antt')
 
-.PHONY: test read host-test host-test-sanitized compare speed clean
+.PHONY: test read check host-test host-test-sanitized compare speed clean
 
 test:
 	.ci/run
@@ -21,13 +22,17 @@ test:
 $(LIBRARY): $(PROVED)
 	rt staticlib ormsvelg
 
-build/read: host/read.c include/ormsvelg.h tools/x86 $(LIBRARY)
+build/read build/check: build/%: host/%.c host/sheet.h include/ormsvelg.h tools/x86 $(LIBRARY)
 	@mkdir -p build
-	$(HOST) -o $@ host/read.c $(LIBRARY)
+	$(HOST) -o $@ host/$*.c $(LIBRARY)
 
 read: build/read
 	@test -n "$(JOB)" || { echo "usage: make read JOB=FILE"; exit 2; }
 	@tools/x86 run build/read "$(JOB)" || [ $$? -eq 1 ]
+
+check: build/check
+	@test -n "$(JOB)" && test -n "$(ANSWER)" || { echo "usage: make check JOB=FILE ANSWER=FILE"; exit 2; }
+	@tools/x86 run build/check "$(JOB)" "$(ANSWER)" || [ $$? -eq 1 ]
 
 build/host-test: host/test.c include/ormsvelg.h tools/x86 $(LIBRARY)
 	@mkdir -p build
@@ -35,7 +40,7 @@ build/host-test: host/test.c include/ormsvelg.h tools/x86 $(LIBRARY)
 
 build/host-test-sanitized: host/test.c include/ormsvelg.h tools/x86 $(LIBRARY)
 	@mkdir -p build
-	$(HOST) -g -fsanitize=address,undefined -fno-sanitize-recover=all -o $@ host/test.c $(LIBRARY)
+	$(HOST) -O0 -g -fsanitize=address,undefined -fno-sanitize-recover=all -o $@ host/test.c $(LIBRARY)
 
 host-test: build/host-test
 	tools/x86 run build/host-test
@@ -62,9 +67,16 @@ compare: build/drive build/second/compare
 build/native/libormsvelg.a: $(PROVED) tools/native-archive
 	tools/native-archive ormsvelg $@
 
-build/native/speed: speed/main.c speed/read.c speed/read.h include/ormsvelg.h build/native/libormsvelg.a
-	cc $(C) -O3 -c -o build/native/read.o speed/read.c
-	cc $(C) -O3 -Iinclude -o $@ speed/main.c build/native/read.o build/native/libormsvelg.a
+build/native/%.o: speed/%.c $(wildcard speed/*.h) include/ormsvelg.h
+	@mkdir -p build/native
+	cc $(C) -O3 -Iinclude -c -o $@ $<
+
+build/native/check.o: speed/check.cpp $(wildcard speed/*.h)
+	@mkdir -p build/native
+	g++ -std=c++20 -Wall -Wextra -Werror -O3 -c -o $@ $<
+
+build/native/speed: $(addprefix build/native/,main.o sheets.o read.o check.o libormsvelg.a)
+	g++ -o $@ $^
 
 speed: build/native/speed
 	build/native/speed

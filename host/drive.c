@@ -14,6 +14,7 @@ extern long write(int file, const void *bytes, size length);
 extern void _exit(int status) __attribute__((noreturn));
 
 extern outcome ormsvelg_read(const byte *job, size job_len);
+extern outcome ormsvelg_check(const byte *job, size job_len, const byte *answer, size answer_len);
 
 enum {
     SLICES = 4,           /* the most slices that one call takes */
@@ -177,6 +178,10 @@ static void serve(int op)
     case 'r':
         take_slices(1);
         respond(ormsvelg_read(bytes_of(0), length_of(0)), 1, 0);
+        break;
+    case 'c':
+        take_slices(2);
+        respond(ormsvelg_check(bytes_of(0), length_of(0), bytes_of(1), length_of(1)), 2, 0);
         break;
     default:
         fail(BAD_REQUEST, "drive: a request with an unknown op\n");

@@ -1,12 +1,7 @@
 /* ormsvelg.h: the bench's face of the proved library, libormsvelg.a (x86-64).
  * A call takes lent buffers, each a pointer and a length, and hands back one outcome as a 64-bit number.
- * A null pointer with length 0 is an empty buffer: an empty job, refused with 1 at place 0.
+ * A null pointer with length 0 is an empty buffer: an empty job, refused with 1 at place 0, or an empty answer.
  * Lent buffers do not overlap. The functions keep no state and write nothing but the lent buffers.
- * Example:
- *     uint8_t job[] = {0, 0, 0, 0, 0};               no wires, no rules
- *     uint64_t outcome = ormsvelg_read(job, sizeof job);
- *     if (ormsvelg_code(outcome) != ORMSVELG_ACCEPTED)
- *         printf("refused %u at %u\n", (unsigned)ormsvelg_code(outcome), (unsigned)ormsvelg_place(outcome));
  */
 #ifndef ORMSVELG_H
 #define ORMSVELG_H
@@ -14,20 +9,40 @@
 #include <stddef.h>
 #include <stdint.h>
 
-/* The limits of a job sheet. No longer sheet is accepted, and of a longer one the first
- * ORMSVELG_LONGEST_JOB + 1 bytes decide the outcome. */
+/* Example:
+ *     uint8_t job[] = {0, 0, 0, 0, 0};                no wires, no rules
+ *     uint8_t answer[] = {1, 0, 0, 1, 0, 0, 0, 0};    tables: A 0, B 0
+ *     uint64_t outcome = ormsvelg_check(job, sizeof job, answer, sizeof answer);
+ *     if (ormsvelg_code(outcome) == ORMSVELG_TABLES)
+ *         printf("the tables fit\n");
+ */
+
+/* The limits of the sheets. No longer sheet is accepted, and of a longer one the first ORMSVELG_LONGEST_JOB + 1
+ * or ORMSVELG_LONGEST_ANSWER + 1 bytes decide the outcome. */
 #define ORMSVELG_MOST_WIRES 12
 #define ORMSVELG_MOST_SEEN 8
 #define ORMSVELG_MOST_RULES 256
 #define ORMSVELG_LONGEST_JOB 7457
+#define ORMSVELG_LONGEST_ANSWER 8190
 
-/* Codes. The place of each refusal stands beside it; the first fault on the sheet decides. */
-#define ORMSVELG_ACCEPTED 0   /* reader: sheet accepted; sheet and place are 0 */
-#define ORMSVELG_ENDS 1       /* job ends where a byte is called for: its length */
-#define ORMSVELG_TOO_MANY 2   /* count above its limit: the count's first byte */
-#define ORMSVELG_NOT_RISING 3 /* entry not above the one before: its offset */
-#define ORMSVELG_TOO_HIGH 4   /* wire position not below n, or term not below 2n+4: its offset */
-#define ORMSVELG_LEFT_OVER 5  /* bytes left over in a job: the first of them */
+/* Codes. Successes have sheet and place 0. The place of each refusal stands beside it. */
+#define ORMSVELG_ACCEPTED 0      /* reader: sheet accepted */
+#define ORMSVELG_TABLES 20       /* checker: tables that fit */
+#define ORMSVELG_WALK 21         /* checker: a walk that stands */
+/* Refusals of a job. The first fault on the sheet decides. */
+#define ORMSVELG_ENDS 1          /* job ends where a byte is called for: its length */
+#define ORMSVELG_TOO_MANY 2      /* count above its limit: the count's first byte */
+#define ORMSVELG_NOT_RISING 3    /* entry not above the one before: its offset */
+#define ORMSVELG_TOO_HIGH 4      /* wire position not below n, or term not below 2n+4: its offset */
+#define ORMSVELG_LEFT_OVER 5     /* bytes left over in a job: the first of them */
+/* Refusals of an answer, sheet 2: first 7, 8, 9 and 11 in reading order, then 10, or 12 and then 13. */
+#define ORMSVELG_WRONG_LENGTH 7  /* answer ends early, or has bytes over: its length, or the first of them */
+#define ORMSVELG_OTHER_KIND 8    /* count of neither permitted kind after the counts before it: its first byte */
+#define ORMSVELG_NOT_A_BIT 9     /* table byte above 1: its offset */
+#define ORMSVELG_BREAKS_RULE 10  /* tables break a rule: the lowest such combination */
+#define ORMSVELG_OUT_OF_RANGE 11 /* claim not below 2R, or combination not below 2^n: its two bytes' offset */
+#define ORMSVELG_NO_STEP 12      /* a step does not hold: the lowest such entry's number, from 0 */
+#define ORMSVELG_NO_OPPOSITE 13  /* opposite of the first claim is absent: 0 */
 
 #ifdef __cplusplus
 extern "C" {
@@ -35,6 +50,10 @@ extern "C" {
 
 /* Reads a job sheet. ORMSVELG_ACCEPTED, or a refusal of sheet 1 with one of the codes 1 to 5. Writes nothing. */
 uint64_t ormsvelg_read(const uint8_t *job, size_t job_len);
+
+/* Checks an answer sheet against a job sheet. ORMSVELG_TABLES or ORMSVELG_WALK; else a refusal of sheet 1 with one
+ * of the codes 1 to 5, or one of sheet 2 with one of the codes 7 to 13. Writes nothing. */
+uint64_t ormsvelg_check(const uint8_t *job, size_t job_len, const uint8_t *answer, size_t answer_len);
 
 #ifdef __cplusplus
 }

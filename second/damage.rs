@@ -36,7 +36,7 @@ fn known(bytes: Vec<u8>, code: u8, place: usize) -> Damaged {
     Damaged { bytes, known: Some(Refusal { code, place }) }
 }
 
-fn one_byte_changed(bytes: &[u8], random: &mut Random) -> Vec<u8> {
+pub fn one_byte_changed(bytes: &[u8], random: &mut Random) -> Vec<u8> {
     let mut changed = bytes.to_vec();
     let place = random.below(bytes.len());
     changed[place] = match random.below(3) {
@@ -47,7 +47,7 @@ fn one_byte_changed(bytes: &[u8], random: &mut Random) -> Vec<u8> {
     changed
 }
 
-fn two_bytes_exchanged(bytes: &[u8], random: &mut Random) -> Vec<u8> {
+pub fn two_bytes_exchanged(bytes: &[u8], random: &mut Random) -> Vec<u8> {
     let mut changed = bytes.to_vec();
     let first = random.below(bytes.len() - 1);
     let second = if random.once_in(2) { first + 1 } else { random.below(bytes.len()) };
@@ -148,7 +148,7 @@ fn some_mark<T: Copy>(sheet: &JobSheet, random: &mut Random, choice: impl Fn(&Ma
 }
 
 /// The bytes with a number of one or two bytes, low byte first, written over them.
-fn with_number(bytes: &[u8], offset: usize, width: usize, number: usize) -> Vec<u8> {
+pub fn with_number(bytes: &[u8], offset: usize, width: usize, number: usize) -> Vec<u8> {
     let mut changed = bytes.to_vec();
     changed[offset..offset + width].copy_from_slice(&number.to_le_bytes()[..width]);
     changed

@@ -6,6 +6,7 @@ use crate::case::{hex, Call, Case};
 use crate::damage::{damage, Damaged};
 use crate::job::{JobSheet, LONGEST_JOB};
 use crate::make::{longest_job, random_job};
+use crate::named::ALL;
 use crate::outcome::{Outcome, Refusal, JOB};
 use crate::random::Random;
 use crate::read::{read_job, read_outcome};
@@ -25,12 +26,7 @@ pub const READER: Call = Call {
 
 /// Sheets whose outcome the paper or a close reading of it settles.
 fn named_sheets(random: &mut Random) -> Vec<Case> {
-    let j1 = "00 00 00 00 00";
-    let j2 = "01 04 01 00 01 00 02 00 02 02 04 02 03 05";
-    let j3 = "02 04 07 01 00 01 01 06 00 04 00 03 04 06 04 01 02 04 06 \
-              03 00 02 05 03 00 02 07 03 01 03 05 03 01 03 07";
-    let j4 = "00 00 00 01 00 00";
-    let mut cases: Vec<Case> = [j1, j2, j3, j4].iter().map(|sheet| accepted(hex(sheet))).collect();
+    let mut cases: Vec<Case> = ALL.iter().map(|sheet| accepted(hex(sheet))).collect();
 
     let sheet_of_257 = hex(&format!("00 00 00 01 01{}", " 00".repeat(257)));
     let sheet_of_256 = hex(&format!("00 00 00 00 01{}", " 00".repeat(256)));

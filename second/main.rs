@@ -1,17 +1,24 @@
 // The second program: makes cases, judges each by document 01 alone, and compares with the proved library.
 // It is written apart from the library, so that an error in both at the same place is unlikely.
 // Usage: compare [--seed N] [--count N] -- COMMAND ARGS..   The command speaks the protocol of host/drive.c.
-// It leans on jobs for the cases and on pipe for the command.
+// It leans on jobs and answers for the cases and on pipe for the command.
 
+mod answer;
+mod answers;
+mod board;
 mod case;
+mod check;
 mod damage;
+mod expand;
 mod job;
 mod jobs;
 mod make;
+mod named;
 mod outcome;
 mod pipe;
 mod random;
 mod read;
+mod spoil;
 
 use case::{to_hex, Call, Case};
 use outcome::Outcome;
@@ -22,7 +29,7 @@ use std::process::ExitCode;
 use std::sync::mpsc::{channel, Receiver, Sender};
 use std::thread;
 
-const CALLS: &[Call] = &[jobs::READER];
+const CALLS: &[Call] = &[jobs::READER, answers::CHECKER];
 
 const USAGE: &str = "usage: compare [--seed N] [--count N] -- COMMAND ARGS..";
 const SEED: u64 = 1;

@@ -35,6 +35,84 @@ pub fn job_of_size(random: &mut Random, wires: usize, rules: usize) -> Job {
     job
 }
 
+/// A job whose rules tie the cells to each other and to the wires, so that both kinds of answer are common.
+pub fn tied_job(random: &mut Random) -> Job {
+    let wires = if random.once_in(12) { random.within(0, 9) } else { random.within(0, 4) };
+    let mut job = job_of_size(random, wires, 0);
+    for _ in 0..random.within(1, 4) {
+        let guard = guard(random, wires);
+        // Where the guard's terms are all false: the cells are equal, or unequal, or one of them is fixed.
+        let a = 2 * wires + random.below(2);
+        let b = 2 * wires + 2 + random.below(2);
+        match random.below(8) {
+            0 => job.rules.push(to_bytes([guard, vec![a]].concat())),
+            1 => job.rules.push(to_bytes([guard, vec![b]].concat())),
+            2 => job.rules.push(to_bytes([guard, vec![a, b]].concat())),
+            _ => {
+                job.rules.push(to_bytes([guard.clone(), vec![a, b]].concat()));
+                job.rules.push(to_bytes([guard, vec![a ^ 1, b ^ 1]].concat()));
+            }
+        }
+    }
+    job
+}
+
+/// A job whose rules tie rows of A and B in one long ring, so that its walks are long.
+pub fn ring_job(random: &mut Random) -> Job {
+    let half = if random.once_in(40) { MOST_WIRES / 2 } else { random.within(1, 3) };
+    let wires = 2 * half;
+    let mut job = job_of_size(random, wires, 0);
+    let seen_by_a = random.rising(half, wires);
+    let seen_by_b: Vec<usize> = (0..wires).filter(|wire| !seen_by_a.contains(wire)).collect();
+    let ties_of_each = random.within(1, 1 << half);
+    let mut rows = [0, 1].map(|_| (0..1 << half).collect::<Vec<usize>>());
+    rows.iter_mut().for_each(|list| random.shuffle(list));
+    for tie in 0..2 * ties_of_each {
+        let row_a = rows[0][tie.div_ceil(2) % ties_of_each];
+        let row_b = rows[1][tie / 2];
+        let combination = spread_out(row_a, &seen_by_a) + spread_out(row_b, &seen_by_b);
+        let guard: Vec<usize> = (0..wires).map(|wire| 2 * wire + (combination >> wire & 1)).collect();
+        let (a, b) = (2 * wires, 2 * wires + 2 + random.below(2));
+        job.rules.push(to_bytes([guard.clone(), vec![a, b]].concat()));
+        job.rules.push(to_bytes([guard, vec![a ^ 1, b ^ 1]].concat()));
+    }
+    job.sees = [to_bytes(seen_by_a), to_bytes(seen_by_b)];
+    job
+}
+
+/// The combination that shows the row, with all wires that are not seen at 0.
+fn spread_out(row: usize, seen: &[usize]) -> usize {
+    seen.iter().enumerate().map(|(weight, wire)| (row >> weight & 1) << wire).sum()
+}
+
+/// A job that a pair fits, however many rules it has.
+/// Each cell can copy the last wire it sees, or hold 1 if it sees none.
+pub fn fitting_job(random: &mut Random, wires: usize, rules: usize) -> Job {
+    let mut job = job_of_size(random, wires, 0);
+    for _ in 0..rules {
+        let more = random.within(0, 4);
+        let mut rule = random.rising(more, term_limit(wires));
+        let cell = random.below(2);
+        let plain = 2 * (wires + cell);
+        match job.sees[cell].last() {
+            Some(wire) if random.once_in(2) => rule.extend([2 * *wire as usize, plain + 1]),
+            Some(wire) => rule.extend([2 * *wire as usize + 1, plain]),
+            None => rule.push(plain),
+        }
+        rule.sort();
+        rule.dedup();
+        job.rules.push(to_bytes(rule));
+    }
+    job
+}
+
+/// Up to three terms of different wires.
+fn guard(random: &mut Random, wires: usize) -> Vec<usize> {
+    let count = random.within(0, 3);
+    let chosen = random.rising(count, wires);
+    chosen.into_iter().map(|wire| 2 * wire + random.below(2)).collect()
+}
+
 /// A job whose sheet is the longest there is.
 pub fn longest_job(random: &mut Random) -> Job {
     let mut job = job_of_size(random, MOST_WIRES, 0);

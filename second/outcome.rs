@@ -19,6 +19,7 @@ pub struct Outcome {
 }
 
 pub const JOB: u64 = 1;
+pub const ANSWER: u64 = 2;
 
 impl Outcome {
     /// A success that writes nothing.

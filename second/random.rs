@@ -53,4 +53,15 @@ impl Random {
         }
         taken
     }
+
+    pub fn shuffle<T>(&mut self, list: &mut [T]) {
+        for last in (1..list.len()).rev() {
+            list.swap(last, self.below(last + 1));
+        }
+    }
+
+    /// One of the list's entries; the list is not empty.
+    pub fn choose<'a, T>(&mut self, list: &'a [T]) -> &'a T {
+        &list[self.below(list.len())]
+    }
 }

@@ -1,6 +1,7 @@
-/* speed/main.c: times the library's reader and the plain C reader on the same sheets, in one run.
- * The two take turns, round by round, and each figure is the median of its rounds. The ratio is the
- * library's time over plain C's; a time counts only where both give the same outcome, so that comes first.
+/* speed/main.c: times the library's reader and checker against plain C and C++ on the same sheets, in one run.
+ * The two take turns, round by round, and each figure is the median of its rounds, in processor time, so that other
+ * programs on the machine disturb little. The ratio is the library's time over the plain one's. A time counts only
+ * where both give the same outcome, so that comes first.
  */
 #define _POSIX_C_SOURCE 199309L
 #include <inttypes.h>
@@ -8,36 +9,68 @@
 #include <stdlib.h>
 #include <time.h>
 
+#include "check.h"
 #include "ormsvelg.h"
 #include "read.h"
+#include "sheets.h"
 
-#define ROUNDS 21
-#define ROUND_NANOSECONDS 5e6
+#define ROUNDS 51
+#define ROUND_NANOSECONDS 2e6
+#define FIRST_CALLS 20
 
-typedef uint64_t reader(const uint8_t *sheet, size_t length);
+struct lent {
+    const uint8_t *job;
+    size_t job_length;
+    const uint8_t *answer;
+    size_t answer_length;
+};
 
-static struct job job;
-static volatile uint64_t sink;
+typedef uint64_t call(const struct lent *lent);
 
-static uint64_t read_plain(const uint8_t *sheet, size_t length)
+/* The same work, done by the library and done plainly. */
+struct pair {
+    call *library, *plain;
+    const char *language;
+};
+
+static uint64_t library_reads(const struct lent *lent)
 {
-    return plain_read(sheet, length, &job);
+    return ormsvelg_read(lent->job, lent->job_length);
 }
+
+static uint64_t plain_reads(const struct lent *lent)
+{
+    return plain_read(lent->job, lent->job_length);
+}
+
+static uint64_t library_checks(const struct lent *lent)
+{
+    return ormsvelg_check(lent->job, lent->job_length, lent->answer, lent->answer_length);
+}
+
+static uint64_t plain_checks(const struct lent *lent)
+{
+    return plain_check(lent->job, lent->job_length, lent->answer, lent->answer_length);
+}
+
+static const struct pair readers = {library_reads, plain_reads, "plain C"};
+static const struct pair checkers = {library_checks, plain_checks, "plain C++"};
+static volatile uint64_t sink;
 
 static double now(void)
 {
     struct timespec time;
-    clock_gettime(CLOCK_MONOTONIC, &time);
+    clock_gettime(CLOCK_PROCESS_CPUTIME_ID, &time);
     return (double)time.tv_sec * 1e9 + (double)time.tv_nsec;
 }
 
 /* Nanoseconds of one call, as the mean of many. */
-static double time_round(reader *read, const uint8_t *sheet, size_t length, unsigned calls)
+static double time_round(call *called, const struct lent *lent, unsigned calls)
 {
     uint64_t sum = 0;
     double began = now();
-    for (unsigned call = 0; call < calls; call++)
-        sum += read(sheet, length);
+    for (unsigned made = 0; made < calls; made++)
+        sum += called(lent);
     double took = now() - began;
     sink = sum;
     return took / calls;
@@ -55,62 +88,50 @@ static double median(double *rounds)
     return rounds[ROUNDS / 2];
 }
 
-static int same_outcome(const char *name, const uint8_t *sheet, size_t length)
+static void same_outcome(const char *name, const struct pair *pair, const struct lent *lent, uint32_t code)
 {
-    uint64_t ours = ormsvelg_read(sheet, length), plain = read_plain(sheet, length);
-    if (ours == plain)
-        return 1;
-    printf("%s, %zu bytes: outcomes differ: library %016" PRIx64 ", plain C %016" PRIx64 "\n", name, length, ours, plain);
-    return 0;
+    uint64_t library = pair->library(lent), plain = pair->plain(lent);
+    if (library == plain && ormsvelg_code(library) == code)
+        return;
+    printf("%s: library %016" PRIx64 ", %s %016" PRIx64 ", wanted code %u\n", name, library, pair->language, plain,
+           (unsigned)code);
+    exit(1);
 }
 
-static int compare(const char *name, const uint8_t *sheet, size_t length)
+static void compare(const char *name, const struct pair *pair, const struct lent *lent)
 {
-    double ours[ROUNDS], plain[ROUNDS];
-    if (!same_outcome(name, sheet, length) || !same_outcome(name, sheet, length - 1))
-        return 1;
-    unsigned calls = (unsigned)(ROUND_NANOSECONDS / (time_round(read_plain, sheet, length, 1000) + 1)) + 1;
+    double library[ROUNDS], plain[ROUNDS];
+    unsigned calls = (unsigned)(ROUND_NANOSECONDS / time_round(pair->plain, lent, FIRST_CALLS)) + 1;
     for (int round = 0; round < ROUNDS; round++) {
-        ours[round] = time_round(ormsvelg_read, sheet, length, calls);
-        plain[round] = time_round(read_plain, sheet, length, calls);
+        library[round] = time_round(pair->library, lent, calls);
+        plain[round] = time_round(pair->plain, lent, calls);
     }
-    double library = median(ours), c = median(plain);
-    printf("read, %s, %zu bytes: library %.1f ns, plain C %.1f ns, ratio %.2f\n", name, length, library, c, library / c);
-    return 0;
+    double ours = median(library), theirs = median(plain);
+    printf("%s: library %.1f ns, %s %.1f ns, ratio %.2f\n", name, ours, pair->language, theirs, ours / theirs);
 }
 
-static size_t rising_section(uint8_t *sheet, size_t at, unsigned count, unsigned stride)
+static void compare_readers(const char *name, const uint8_t *job, size_t length)
 {
-    sheet[at++] = (uint8_t)count;
-    for (unsigned entry = 0; entry < count; entry++)
-        sheet[at++] = (uint8_t)(entry * stride);
-    return at;
+    struct lent whole = {job, length, NULL, 0}, part = {job, length - 1, NULL, 0};
+    same_outcome(name, &readers, &whole, ORMSVELG_ACCEPTED);
+    same_outcome(name, &readers, &part, ORMSVELG_ENDS);
+    compare(name, &readers, &whole);
 }
 
-/* The longest sheet there is: 12 wires, 8 seen by each cell, 256 rules of 28 terms. */
-static size_t longest_sheet(uint8_t *sheet)
+/* The tables fit. With A's row 0 turned they break a rule, or with B's row 255, and both say at which combination. */
+static void compare_checkers(void)
 {
-    size_t at = rising_section(sheet, 0, 12, 1);
-    at = rising_section(sheet, at, 8, 1);
-    at = rising_section(sheet, at, 8, 1);
-    sheet[at++] = 0;
-    sheet[at++] = 1;
-    for (int rule = 0; rule < 256; rule++)
-        at = rising_section(sheet, at, 28, 1);
-    return at;
-}
-
-/* An ordinary one: 8 wires, 4 seen by each cell, 60 rules of 2 to 5 terms spread over the 20. */
-static size_t ordinary_sheet(uint8_t *sheet)
-{
-    size_t at = rising_section(sheet, 0, 8, 3);
-    at = rising_section(sheet, at, 4, 1);
-    at = rising_section(sheet, at, 4, 2);
-    sheet[at++] = 60;
-    sheet[at++] = 0;
-    for (unsigned rule = 0; rule < 60; rule++)
-        at = rising_section(sheet, at, 2 + rule * 7 % 4, 1 + rule % 4);
-    return at;
+    static const size_t turned[] = {2, 515};
+    static uint8_t job[ORMSVELG_LONGEST_JOB], tables[ORMSVELG_LONGEST_ANSWER];
+    size_t tables_length = largest_tables(tables), job_length = fitted_job(job, tables);
+    struct lent lent = {job, job_length, tables, tables_length};
+    for (int row = 0; row < 2; row++) {
+        tables[turned[row]] ^= 1;
+        same_outcome("check, a row turned", &checkers, &lent, ORMSVELG_BREAKS_RULE);
+        tables[turned[row]] ^= 1;
+    }
+    same_outcome("check", &checkers, &lent, ORMSVELG_TABLES);
+    compare("check, 256 rules at 4096 combinations", &checkers, &lent);
 }
 
 int main(void)
@@ -118,9 +139,10 @@ int main(void)
     /* The sheet of the papers' job J3. */
     static const uint8_t j3[] = {2, 4, 7, 1, 0, 1, 1, 6, 0, 4, 0, 3, 4, 6, 4, 1, 2, 4,
                                  6, 3, 0, 2, 5, 3, 0, 2, 7, 3, 1, 3, 5, 3, 1, 3, 7};
-    static uint8_t sheet[ORMSVELG_LONGEST_JOB];
-    int differ = compare("longest sheet", sheet, longest_sheet(sheet));
-    differ |= compare("ordinary sheet", sheet, ordinary_sheet(sheet));
-    differ |= compare("J3", j3, sizeof j3);
-    return differ;
+    static uint8_t job[ORMSVELG_LONGEST_JOB];
+    compare_readers("read, longest sheet, 7457 bytes", job, longest_job(job));
+    compare_readers("read, ordinary sheet, 291 bytes", job, ordinary_job(job));
+    compare_readers("read, J3, 35 bytes", j3, sizeof j3);
+    compare_checkers();
+    return 0;
 }

@@ -1,6 +1,6 @@
 /* speed/read.c: a reader of job sheets as a C programmer would write it, with nothing proved.
- * Why: make speed times the library's reader against it. Same rules, same outcome numbers, and the rules are
- * kept in an array as masks, so that both do the same work.
+ * Why: make speed times the library's reader against it. Same rules, same outcome numbers. As in the library the
+ * rules go to an array of masks that is a local of the reader, so a compiler may leave out what nobody reads.
  */
 #include "read.h"
 
@@ -92,7 +92,7 @@ static inline uint64_t read_rules(struct reader *from, struct job *job)
     return ACCEPTED;
 }
 
-uint64_t plain_read(const uint8_t *sheet, size_t length, struct job *job)
+static inline uint64_t read_job(const uint8_t *sheet, size_t length, struct job *job)
 {
     struct reader from = {sheet, length, 0};
     uint64_t outcome = read_pins(&from, job);
@@ -103,4 +103,15 @@ uint64_t plain_read(const uint8_t *sheet, size_t length, struct job *job)
     if (outcome == ACCEPTED && from.place < length)
         outcome = refusal(LEFT_OVER, from.place);
     return outcome;
+}
+
+uint64_t plain_read(const uint8_t *sheet, size_t length)
+{
+    struct job job;
+    return read_job(sheet, length, &job);
+}
+
+uint64_t plain_read_job(const uint8_t *sheet, size_t length, struct job *job)
+{
+    return read_job(sheet, length, job);
 }

@@ -1,0 +1,18 @@
+// The jobs that document 01 names, as job sheets in hexadecimal.
+// It leans on nothing.
+
+pub const J1: &str = "00 00 00 00 00";
+pub const J2: &str = "01 04 01 00 01 00 02 00 02 02 04 02 03 05";
+pub const J3: &str = "02 04 07 01 00 01 01 06 00 04 00 03 04 06 04 01 02 04 06 \
+                      03 00 02 05 03 00 02 07 03 01 03 05 03 01 03 07";
+pub const J4: &str = "00 00 00 01 00 00";
+pub const J5: &str = "00 00 00 02 00 02 00 02 02 01 03";
+pub const J6: &str = "01 04 00 01 00 02 00 02 00 05 02 01 04";
+pub const J7: &str = "01 04 00 00 02 00 02 00 05 02 01 04";
+/// J6 with A seeing the wire too.
+pub const J6_WIDENED: &str = "01 04 01 00 01 00 02 00 02 00 05 02 01 04";
+/// Two wires, A sees the first and B the second; A equals B exactly when the wires are equal.
+pub const EQUAL_AS_WIRES: &str = "02 04 07 01 00 01 01 08 00 04 00 02 04 07 04 00 02 05 06 04 01 03 04 07 \
+                                  04 01 03 05 06 04 00 03 04 06 04 00 03 05 07 04 01 02 04 06 04 01 02 05 07";
+
+pub const ALL: [&str; 9] = [J1, J2, J3, J4, J5, J6, J7, J6_WIDENED, EQUAL_AS_WIRES];
