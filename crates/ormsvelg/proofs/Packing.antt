@@ -36,7 +36,7 @@ use Rattle.board.specs.Check.{lowest, faultAt, stepAt, tablesAt, walkAt, judgeT
 use Rattle.answer.specs.Written.{tablesSheet, walkSheet}
 use Rattle.answer.proofs.Sheets.{tables-length, walk-length}
 use Rattle.solver.specs.Solved.{SolvedOn, Solved, refused, noRoom, solved}
-use Rattle.solver.specs.Solved.SolvedOn as onBoard
+use Rattle.solver.specs.Solved.{tables as tabled, walk as walked}
 use Rattle.ormsvelg.specs.Packed.{pack, unpack, Packs}
 
 module _ (c s p w : ℕ) (hc : c < 2 ^ 8) (hs : s < 2 ^ 8) (hp : p < 2 ^ 24) where
@@ -153,9 +153,9 @@ check-found job answer = unpack-pack (checkOutcome job answer) (check-packs job 
 -- ---- the solver
 
 on-packs : (B : Board) (entry : List ℕ) (o : Outcome) (exit : List ℕ) → B .rowsA ≤ 256 → B .rowsB ≤ 256 → SolvedOn B entry o exit → Packs o
-on-packs B entry o exit la lb (onBoard.tables xs ys p f e w) =
+on-packs B entry o exit la lb (tabled xs ys p f e w) =
     rw e (success-packs 20 (length (tablesSheet xs ys)) (omega arith) (omega (arith, tables-length xs ys, p .longA, p .longB)))
-on-packs B entry o exit la lb (onBoard.walk es p st l e w) =
+on-packs B entry o exit la lb (walked es p st l e w) =
     rw e (success-packs 21 (length (walkSheet es)) (omega arith) (omega (arith, walk-length es, p .most)))
 
 pub solve-packs : {job entry : List ℕ} {o : Outcome} {exit : List ℕ} → Solved job entry o exit → Packs o

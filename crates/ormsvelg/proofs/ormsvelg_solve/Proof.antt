@@ -8,10 +8,13 @@ solve-requires : tie.Need-solve-requires
 solve-requires c κs = search needs
 
 packed-requires : tie.Need-packed-requires
-packed-requires c κs = solve-packs (c .solve .ensures)
+packed-requires c κs = solve-packs (c .before .before .solve .ensures)
+
+same-length : tie.Need-same-length
+same-length c = search needs
 
 returns : tie.Need-returns
-returns c = solve-found _ _ _ _ _ (c .packed .ensures) (c .before .solve .ensures)
+returns c = solve-found _ _ _ _ _ (c .packed .ensures) (c .before .before .before .solve .ensures)
 
 pub ormsvelg-solve-spec : {M : Type 1} → statement M
-ormsvelg-solve-spec = tie.close (tie.spec solve-requires packed-requires returns)
+ormsvelg-solve-spec = tie.close (tie.spec solve-requires packed-requires same-length returns)
