@@ -22,14 +22,17 @@ use Rattle.board.specs.Board.{Board}
 use Rattle.board.specs.Check.{judgeSheet, checkOutcome}
 use Rattle.board.specs.JobBoard.{boardOf, jobBoard, headBoard, Sized}
 
+-- the job in numbers
+abbrev pub headOf : Job → JobHead
+headOf j = record { wires = length (j .pins); «sees_a» = j .seesA; «sees_b» = j .seesB; rules = length (j .rules); «pins_at» = 1 }
+
 pub record Taken (s : List ℕ) (h : JobHead) (rules : List ℕ) : Type 0 where
   pub job : Job
   pub is : readJob s ≡ accepted job
   pub sized : Sized h rules
   pub board : headBoard h rules ≡ jobBoard job
-
-abbrev headOf : Job → JobHead
-headOf j = record { wires = length (j .pins); «sees_a» = j .seesA; «sees_b» = j .seesB; rules = length (j .rules); «pins_at» = 1 }
+  pub head : h ≡ headOf job
+  pub rules-are : take (h .rules) rules ≡ job .rules
 
 accepted-is : (v : Verdict) (h : JobHead) → Accepted h ≡ asJob v → (j : Job) × (v ≡ accepted j) × (h ≡ headOf j)
 accepted-is (accepted j) h e = (j, refl, cc)
@@ -48,6 +51,8 @@ module _ (s : List ℕ) (old : List ℕ) (room : length old ≡ 256) where
         is = is;
         sized = record { wires = b .0; count = omega (arith, stored-length); maskA = b .2; maskB = b .3; seesA = m .0; seesB = m .1 };
         board = ap (boardOf (length (j .pins)) (j .seesA) (j .seesB)) (rules-front s j is old few);
+        head = refl;
+        rules-are = rules-front s j is old few;
       }
 
   pub taken : (x : JobRead) (h : JobHead) (new : List ℕ) → x ≡ asJob (readJob s) → x ≡ Accepted h → new ≡ sets old 0 (keptRules s) → Taken s h new

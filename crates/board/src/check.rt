@@ -157,7 +157,7 @@ fn judge_walk(h: JobHead, rules: &[u32], answer: &[u8], count: u32) -> Outcome
 }
 
 // The outcome of an answer sheet for an accepted job.
-fn check_answer(h: JobHead, rules: &[u32], sheet: &[u8]) -> Outcome
+pub fn check_answer(h: JobHead, rules: &[u32], sheet: &[u8]) -> Outcome
     requires { ⌜ Sized h (now rules) ⌝ }
     ensures { λ r. ⌜ r ≡ judgeSheet (headBoard h (now (rules .entry))) (now (sheet .entry)) ⌝ }
 {
