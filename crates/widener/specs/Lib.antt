@@ -1,0 +1,4 @@
+pub mod Asks
+pub mod Table
+pub mod Widened
+pub mod Taking

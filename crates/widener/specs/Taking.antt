@@ -1,0 +1,67 @@
+-- What the widener's parts ask and leave: two jobs that were read, and tables that are written piece by piece.
+--     TakenAs, IsTaken      a job sheet was accepted, and its numbers and rules are those found
+--     Widens        what `widen_table` asks
+--     Wide, Widely  what `write_wide` asks and leaves
+--     Ended         a call ended so
+-- Assumes nothing: these are definitions.
+use mathlib.Core.Path.{_≡_}
+use mathlib.Core.List.{List, _++_}
+use Prim.Native.Nat.{ℕ, _+_, _^_, _<_, _≤_}
+use lib.Bits.{bitAnd}
+use lib.Count.{ones}
+use lib.ListN.{length, getD, take, drop}
+use Rattle.steps.specs.declared.Outcome.{Outcome}
+use Rattle.sheet.specs.declared.JobHead.{JobHead}
+use Rattle.sheet.specs.Job.{Job, accepted}
+use Rattle.sheet.specs.JobSheet.{readJob}
+use Rattle.answer.specs.AnswerSheet.{longest}
+use Rattle.answer.specs.Written.{tablesSheet}
+use Rattle.board.specs.JobBoard.{Sized}
+use Rattle.board.specs.Places.{TablesIn}
+use Rattle.widener.specs.Table.{narrowRow, tabled}
+use Rattle.widener.specs.Widened.{Ending}
+
+-- the job in numbers
+abbrev pub headOf : Job → JobHead
+headOf j = record { wires = length (j .pins); «sees_a» = j .seesA; «sees_b» = j .seesB; rules = length (j .rules); «pins_at» = 1 }
+
+pub record TakenAs (s : List ℕ) (h : JobHead) (rules : List ℕ) (j : Job) : Type 0 where
+  pub is : readJob s ≡ accepted j
+  pub head : h ≡ headOf j
+  pub sized : Sized h rules
+  pub rules-are : take (h .rules) rules ≡ j .rules
+
+abbrev pub IsTaken : (s : List ℕ) (h : JobHead) (rules : List ℕ) → Type 0
+IsTaken s h rules = (j : Job) × TakenAs s h rules j
+
+-- the table of a cell that sees the wires of `few` stands in s from the place `first` on, and there is room for that of a cell that sees those of `more`
+pub record Widens (few more : ℕ) (s : List ℕ) (first : ℕ) (out : List ℕ) (at : ℕ) : Type 0 where
+  pub few-seen : ones few ≤ 8
+  pub more-seen : ones more ≤ 8
+  pub there : first + 2 ^ ones few ≤ length s
+  pub room : at + 2 + 2 ^ ones more ≤ length out
+
+pub record Wide (hp hq : JobHead) (s out : List ℕ) : Type 0 where
+  pub seesA : ones (hp .«sees_a») ≤ 8
+  pub seesB : ones (hp .«sees_b») ≤ 8
+  pub wideA : ones (hq .«sees_a») ≤ 8
+  pub wideB : ones (hq .«sees_b») ≤ 8
+  pub tables : TablesIn hp s
+  pub room : longest ≤ length out
+
+-- the rows of a widened table, from the bytes at a place of a sheet
+abbrev pub rowsFrom : (n few more : ℕ) (s : List ℕ) (first : ℕ) → List ℕ
+rowsFrom n few more s first = tabled (λ i. getD s (first + narrowRow n few more i) 0) 0 (2 ^ ones more)
+
+abbrev pub sheetFrom : (n : ℕ) (hp hq : JobHead) (s : List ℕ) → List ℕ
+sheetFrom n hp hq s =
+    tablesSheet (rowsFrom n (hp .«sees_a») (hq .«sees_a») s 2) (rowsFrom n (hp .«sees_b») (hq .«sees_b») s (4 + 2 ^ ones (hp .«sees_a»)))
+
+pub record Widely (hp hq : JobHead) (s entry exit : List ℕ) (r : ℕ) : Type 0 where
+  pub long : (n : ℕ) → r ≡ length (sheetFrom n hp hq s)
+  pub wrote : (n : ℕ) → hp .«sees_a» < 2 ^ n → hp .«sees_b» < 2 ^ n → hq .«sees_a» < 2 ^ n → hq .«sees_b» < 2 ^ n
+      → exit ≡ sheetFrom n hp hq s ++ drop r entry
+
+pub record Ended (e : Ending) (o : Outcome) (exit : List ℕ) : Type 0 where
+  pub outcome : o ≡ e .outcome
+  pub exit-is : exit ≡ e .exit

@@ -1,0 +1,62 @@
+-- How a widener call ends, for every four byte lists (document 01, "Outcome numbers").
+--     Ending        an outcome, and what the lent buffer holds
+--     widened       the ending
+-- Widener: P's 1–5, Q's, then the checker's refusals, 15, 14, 6. Assumes nothing: these are definitions.
+use mathlib.Core.Bool.{Bool}
+use mathlib.Core.List.{List, _++_}
+use Prim.Native.Nat.{ℕ}
+use lib.Dec.{ltb, eqb}
+use lib.ListN.{length, drop}
+use Rattle.steps.specs.declared.Outcome.{Outcome}
+use Rattle.steps.specs.Step.{pick}
+use Rattle.steps.specs.Outcome.{success, refusal, refusedJob, refusedAnswer}
+use Rattle.sheet.specs.Job.{Job, Verdict, accepted, rejected}
+use Rattle.sheet.specs.JobSheet.{readJob}
+use Rattle.answer.specs.Answer.{Answer, tables, walk, AnswerVerdict, answered}
+use Rattle.answer.specs.Answer.{rejected as unanswered}
+use Rattle.answer.specs.AnswerSheet.{readAnswer, longest}
+use Rattle.board.specs.Board.{Board}
+use Rattle.board.specs.JobBoard.{jobBoard}
+use Rattle.board.specs.Check.{judgeTables, judgeWalk}
+use Rattle.widener.specs.Asks.{asksb}
+use Rattle.widener.specs.Table.{widenSheet}
+
+pub record Ending : Type 0 where
+  pub outcome : Outcome
+  pub exit : List ℕ
+
+-- Refusals write 0 bytes; all buffers keep their contents.
+abbrev pub refusing : Outcome → List ℕ → Ending
+refusing o entry = record { outcome = o; exit = entry }
+
+-- A success writes exactly one answer sheet; bytes beyond the written length stay unchanged.
+abbrev pub writing : (sheet entry : List ℕ) → Ending
+writing sheet entry = record { outcome = success 20 (length sheet); exit = sheet ++ drop (length sheet) entry }
+
+-- tables that fit P. 14: Q does not ask no more than P (sheet 3). 6: buffer under 8,190 bytes (sheet 0)
+abbrev pub fitting : (P Q : Job) → (xs ys entry : List ℕ) → Ending
+fitting P Q xs ys entry =
+    pick (asksb P Q) (pick (ltb (length entry) longest) (refusing (refusal 6 0 0) entry) (writing (widenSheet P Q xs ys) entry))
+    (refusing (refusal 14 3 0) entry)
+
+-- the answer against P. 15: answer is a standing walk where tables are needed (sheet 2)
+abbrev pub judged : (P Q : Job) → AnswerVerdict → List ℕ → Ending
+judged P Q (answered (tables xs ys)) entry =
+    pick (eqb (judgeTables (jobBoard P) (xs ++ ys) .code) 20) (fitting P Q xs ys entry) (refusing (judgeTables (jobBoard P) (xs ++ ys)) entry)
+judged P Q (answered (walk es)) entry =
+    pick (eqb (judgeWalk (jobBoard P) es .code) 21) (refusing (refusal 15 2 0) entry) (refusing (judgeWalk (jobBoard P) es) entry)
+judged P Q (unanswered w) entry = refusing (refusedAnswer w) entry
+
+abbrev pub withBoth : (P Q : Job) → (s entry : List ℕ) → Ending
+withBoth P Q s entry = judged P Q (readAnswer (jobBoard P .rowsA) (jobBoard P .rowsB) (jobBoard P .combinations) s) entry
+
+abbrev pub withP : (P : Job) → Verdict → (s entry : List ℕ) → Ending
+withP P (accepted Q) s entry = withBoth P Q s entry
+withP P (rejected w) s entry = refusing (refusedJob 3 w) entry
+
+abbrev pub withNone : Verdict → (q s entry : List ℕ) → Ending
+withNone (accepted P) q s entry = withP P (readJob q) s entry
+withNone (rejected w) q s entry = refusing (refusedJob 1 w) entry
+
+unfoldable pub widened : (p q s entry : List ℕ) → Ending
+widened p q s entry = withNone (readJob p) q s entry

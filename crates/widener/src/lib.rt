@@ -1,0 +1,200 @@
+// The widener: from tables that fit job P to tables that fit job Q, which asks no more (document 01, "Widening"). How a call
+// ends, for every four strings of bytes, stands in specs/Widened. Leans on the checker for the answer against P.
+use answer::LONGEST;
+use answer::write_two;
+use sheet::JobHead;
+use sheet::JobRead;
+use sheet::RULES;
+use steps::Outcome;
+use steps::refused;
+use steps::refused_job;
+use steps::succeeded;
+use wires::row_count;
+use wires::row_placed;
+use wires::row_shown;
+ghost use mathlib.Core.Path.{_≡_};
+ghost use Prim.Native.Nat.{ℕ, _+_, _^_, _<_, _≤_};
+ghost use lib.Count.{ones};
+ghost use lib.ListN.{length, getD, take, drop};
+ghost use lib.Seq.{sets};
+ghost use Rattle.sheet.specs.Job.{Job};
+ghost use Rattle.answer.specs.AnswerSheet.{longest};
+ghost use Rattle.answer.specs.Written.{table};
+ghost use Rattle.board.specs.JobBoard.{Sized};
+ghost use Rattle.widener.specs.Asks.{containsb, samePins, someWithin, allWithin, asksb};
+ghost use Rattle.widener.specs.Table.{tabled, narrowRow};
+ghost use Rattle.widener.specs.Taking.{TakenAs, IsTaken, Widens, Wide, Widely, Ended};
+ghost use Rattle.widener.specs.Widened.{widened};
+
+// Does the set `r` contain all of the set `s`?
+fn contains(r: u32, s: u32) -> bool
+    ensures { λ b. ⌜ b ≡ containsb r s ⌝ }
+{
+    s & r == s
+}
+
+// Are the `n` pins of two job sheets equal, byte by byte? They stand from place 1 on.
+fn same_pins(p: &[u8], q: &[u8], n: usize) -> bool
+    requires { ⌜ (1 + n ≤ length (now p)) × (1 + n ≤ length (now q)) ⌝ }
+    ensures { λ b. ⌜ b ≡ samePins (take n (drop 1 (now (p .entry)))) (take n (drop 1 (now (q .entry)))) ⌝ }
+{
+    let mut i: usize = 0;
+    while i < n {
+        if p[1 + i] != q[1 + i] {
+            return false;
+        }
+        i += 1;
+    }
+    true
+}
+
+// Does the rule `r` contain one of the first `count` rules?
+fn some_within(rules: &[u32], count: usize, r: u32) -> bool
+    requires { ⌜ count ≤ length (now rules) ⌝ }
+    ensures { λ b. ⌜ b ≡ someWithin (take count (now (rules .entry))) r ⌝ }
+{
+    let mut i: usize = 0;
+    while i < count {
+        if contains(r, rules[i]) {
+            return true;
+        }
+        i += 1;
+    }
+    false
+}
+
+// Does each of the first `count_q` rules of `rules_q` contain one of the first `count_p` rules of `rules_p`?
+fn all_within(rules_p: &[u32], count_p: usize, rules_q: &[u32], count_q: usize) -> bool
+    requires { ⌜ («count_p» ≤ length (now «rules_p»)) × («count_q» ≤ length (now «rules_q»)) ⌝ }
+    ensures { λ b. ⌜ b ≡ allWithin (take «count_p» (now («rules_p» .entry))) (take «count_q» (now («rules_q» .entry))) ⌝ }
+{
+    let mut i: usize = 0;
+    while i < count_q {
+        if !some_within(rules_p, count_p, rules_q[i]) {
+            return false;
+        }
+        i += 1;
+    }
+    true
+}
+
+// Does the job of the sheet `q` ask no more than that of the sheet `p`?
+pub fn asks_no_more(
+    p: &[u8],
+    hp: JobHead,
+    rules_p: &[u32],
+    q: &[u8],
+    hq: JobHead,
+    rules_q: &[u32],
+) -> bool
+    requires { ⌜ IsTaken (now p) hp (now «rules_p») ⌝ }
+    requires { ⌜ IsTaken (now q) hq (now «rules_q») ⌝ }
+    ensures { λ b. ⌜ ((P Q : Job) → TakenAs (now (p .entry)) hp (now («rules_p» .entry)) P → TakenAs (now (q .entry)) hq (now («rules_q» .entry)) Q → b ≡ asksb P Q) ⌝ }
+{
+    if hp.wires != hq.wires {
+        return false;
+    }
+    if !same_pins(p, q, hp.wires as usize) {
+        return false;
+    }
+    if !contains(hq.sees_a, hp.sees_a) {
+        return false;
+    }
+    if !contains(hq.sees_b, hp.sees_b) {
+        return false;
+    }
+    all_within(rules_p, hp.rules as usize, rules_q, hq.rules as usize)
+}
+
+// Writes the table of a cell that sees the wires of `more`, from that of a cell that sees those of `few`, whose rows stand in
+// `from` from the place `first` on: its count, then its rows. Answers the place after it.
+fn widen_table(few: u32, more: u32, from: &[u8], first: usize, out: &mut [u8], at: usize) -> usize
+    requires { ⌜ Widens few more (now from) first (now out) at ⌝ }
+    ensures { λ r. ⌜ r ≡ at + 2 + 2 ^ ones more ⌝ }
+    ensures { λ r. ⌜ ((n : ℕ) → few < 2 ^ n → more < 2 ^ n → now (out .exit) ≡ sets (now (out .entry)) at (table (tabled (λ i. getD (now (from .entry)) (first + narrowRow n few more i) 0) 0 (2 ^ ones more)))) ⌝ }
+{
+    let rows = row_count(more);
+    let start = write_two(out, at, rows as u16);
+    let mut i: usize = 0;
+    while i < rows {
+        let r = row_shown(few, row_placed(more, i as u32)) as usize;
+        out[start + i] = from[first + r];
+        i += 1;
+    }
+    start + i
+}
+
+// Writes the widened sheet, from the tables in `sheet`. Answers its length.
+fn write_wide(hp: JobHead, hq: JobHead, sheet: &[u8], out: &mut [u8]) -> usize
+    requires { ⌜ Wide hp hq (now sheet) (now out) ⌝ }
+    ensures { λ r. ⌜ Widely hp hq (now (sheet .entry)) (now (out .entry)) (now (out .exit)) r ⌝ }
+{
+    let rows_a = row_count(hp.sees_a);
+    let at_b = widen_table(hp.sees_a, hq.sees_a, sheet, 2, out, 0);
+    let at_walk = widen_table(hp.sees_b, hq.sees_b, sheet, 4 + rows_a, out, at_b);
+    write_two(out, at_walk, 0)
+}
+
+// Both jobs were accepted: the answer is checked against P, then the other causes of refusal in their order.
+fn widen_both(
+    p: &[u8],
+    hp: JobHead,
+    rules_p: &[u32],
+    q: &[u8],
+    hq: JobHead,
+    rules_q: &[u32],
+    sheet: &[u8],
+    out: &mut [u8],
+) -> Outcome
+    requires { ⌜ IsTaken (now p) hp (now «rules_p») ⌝ }
+    requires { ⌜ IsTaken (now q) hq (now «rules_q») ⌝ }
+    ensures { λ r. ⌜ Ended (widened (now (p .entry)) (now (q .entry)) (now (sheet .entry)) (now (out .entry))) r (now (out .exit)) ⌝ }
+{
+    let checked = board::check::check_answer(hp, rules_p, sheet);
+    if checked.code == 21 {
+        return refused(15, 2, 0);
+    }
+    if checked.code != 20 {
+        return checked;
+    }
+    if !asks_no_more(p, hp, rules_p, q, hq, rules_q) {
+        return refused(14, 3, 0);
+    }
+    if out.len() < LONGEST {
+        return refused(6, 0, 0);
+    }
+    let written = write_wide(hp, hq, sheet, out);
+    succeeded(20, written)
+}
+
+// P was accepted.
+fn widen_from(
+    p: &[u8],
+    hp: JobHead,
+    rules_p: &[u32],
+    q: &[u8],
+    sheet: &[u8],
+    out: &mut [u8],
+) -> Outcome
+    requires { ⌜ IsTaken (now p) hp (now «rules_p») ⌝ }
+    ensures { λ r. ⌜ Ended (widened (now (p .entry)) (now (q .entry)) (now (sheet .entry)) (now (out .entry))) r (now (out .exit)) ⌝ }
+{
+    let mut rules_q = [0u32; RULES];
+    let read = sheet::read_job(q, &mut rules_q);
+    match read {
+        JobRead::Accepted(hq) => widen_both(p, hp, rules_p, q, hq, &rules_q, sheet, out),
+        JobRead::Refused(w) => refused_job(3, w),
+    }
+}
+
+// The widener: for every two job sheets, every answer sheet and every lent buffer.
+pub fn widen(p: &[u8], q: &[u8], sheet: &[u8], out: &mut [u8]) -> Outcome
+    ensures { λ r. ⌜ Ended (widened (now (p .entry)) (now (q .entry)) (now (sheet .entry)) (now (out .entry))) r (now (out .exit)) ⌝ }
+{
+    let mut rules_p = [0u32; RULES];
+    let read = sheet::read_job(p, &mut rules_p);
+    match read {
+        JobRead::Accepted(hp) => widen_from(p, hp, &rules_p, q, sheet, out),
+        JobRead::Refused(w) => refused_job(1, w),
+    }
+}
