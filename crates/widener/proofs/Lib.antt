@@ -1,2 +1,4 @@
 pub mod Within
 pub mod Asking
+pub mod Asked
+pub mod Demand

@@ -1,11 +1,11 @@
 -- The tests of specs/Asks, entry by entry from the place i of a list on.
---     pins-turn, pins-differ, pins-end     two lists of pins
---     some-turn, some-found, some-end      the rules that a rule may contain
---     all-turn, all-missed, all-end        the rules that are to contain one
---     pins-length                          lists of pins that are equal have one length
+--     pinsFrom, pins-turn, pins-differ, pins-end     the pins of two sheets
+--     some-turn, some-found, some-end                the rules that a rule may contain
+--     all-turn, all-missed, all-end                  the rules that are to contain one
+--     pins-length                                    lists of pins that are equal have one length
 -- Assumes nothing.
 use mathlib.Core.Path.{_≡_, refl, ap, _∙_}
-use mathlib.Core.Bool.{Bool, true, false, _&&_, _||_, false≢true, and-eq-true-iff}
+use mathlib.Core.Bool.{true, false, _&&_, _||_, false≢true, and-eq-true-iff}
 use mathlib.Core.List.{List, [], _∷_}
 use Prim.Native.Nat.{ℕ, suc, _+_, _<_, _≤_}
 use native.Mathlib.Numerals.{add-one}
