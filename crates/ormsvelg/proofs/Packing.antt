@@ -4,6 +4,7 @@
 --     read-found     so it is found again
 --     check-packs, check-found       the same for the checker
 --     solve-packs, solve-found       and for the solver
+--     widen-packs, widen-found       and for the widener
 -- Assumes nothing.
 use mathlib.Core.Path.{_≡_, refl, sym, ap, subst, _∙_}
 use mathlib.Core.Bool.{Bool, true, false, not}
@@ -11,13 +12,13 @@ use mathlib.Core.List.{List, _++_}
 use Prim.Native.Nat.{ℕ, _+_, _*_, _/_, _%_, _^_, _<_, _≤_}
 use native.Mathlib.Omega.{arith}
 use borrow.Author.Tests.{ltb-true}
-use lib.Dec.{ltb}
-use lib.ListN.{length}
+use lib.Dec.{ltb, eqb}
+use lib.ListN.{length, getD}
 use lib.Pow.{pow-mono}
 use Rattle.steps.specs.declared.Refusal.{Refusal}
 use Rattle.steps.specs.declared.Refusal.the-variants.{Ends, TooMany, NotRising, TooHigh, LeftOver, OtherKind, NotABit, OutOfRange}
 use Rattle.steps.specs.declared.Outcome.{Outcome}
-use Rattle.sheet.specs.Job.{Verdict, accepted, rejected}
+use Rattle.sheet.specs.Job.{Job, Verdict, accepted, rejected}
 use Rattle.steps.specs.Step.{pick}
 use Rattle.steps.specs.Outcome.{codeOf, answerCodeOf, placeOf, success, refusal, refusedJob}
 use Rattle.sheet.specs.JobSheet.{readJob, longest, outcomeOf, readOutcome}
@@ -26,6 +27,7 @@ use Rattle.sheet.proofs.Laws.{job-bounds, seen-bounds}
 use Rattle.answer.specs.Answer.{Entry, Answer, tables, walk, AnswerVerdict, answered}
 use Rattle.answer.specs.Answer.{rejected as unanswered}
 use Rattle.answer.specs.AnswerSheet.{readAnswer}
+use Rattle.answer.specs.AnswerSheet.{longest as longestAnswer}
 use Rattle.answer.proofs.There.{walk-there}
 use Rattle.answer.proofs.Length.{place-small as answer-place-small}
 use Rattle.board.specs.Board.{Board, opposite}
@@ -37,6 +39,10 @@ use Rattle.answer.specs.Written.{tablesSheet, walkSheet}
 use Rattle.answer.proofs.Sheets.{tables-length, walk-length}
 use Rattle.solver.specs.Solved.{SolvedOn, Solved, refused, noRoom, solved}
 use Rattle.solver.specs.Solved.{tables as tabled, walk as walked}
+use Rattle.widener.specs.Asks.{asksb}
+use Rattle.widener.specs.Table.{narrowRow, widenTable, widenSheet}
+use Rattle.widener.specs.Widened.{Ending, refusing, writing, fitting, judged, withP, withNone, widened}
+use Rattle.widener.proofs.Demand.{tabled-length}
 use Rattle.ormsvelg.specs.Packed.{pack, unpack, Packs}
 
 module _ (c s p w : ℕ) (hc : c < 2 ^ 8) (hs : s < 2 ^ 8) (hp : p < 2 ^ 24) where
@@ -169,3 +175,53 @@ solve-packs {job} {entry} {o} {exit} (solved j e l s) =
 pub solve-found : (job entry : List ℕ) (o : Outcome) (exit : List ℕ) (r : ℕ) → r ≡ pack o → Solved job entry o exit → Solved job entry (unpack r) exit
 solve-found job entry o exit r e s =
     subst (λ (x : Outcome). Solved job entry x exit) (sym (ap unpack e ∙ unpack-pack o (solve-packs s))) s
+
+-- ---- the widener
+
+pick-ending : (b : Bool) (e f : Ending) → Packs (e .outcome) → Packs (f .outcome) → Packs (pick b e f .outcome)
+pick-ending true e f p q = p
+pick-ending false e f p q = q
+
+module _ (P Q : Job) (s entry : List ℕ) (few : jobBoard P .combinations ≤ 2 ^ 12) (few-a : jobBoard P .rowsA ≤ 256) (few-b : jobBoard P .rowsB ≤ 256)
+    (wide-a : jobBoard Q .rowsA ≤ 256) (wide-b : jobBoard Q .rowsB ≤ 256) where
+  sheet-packs : (xs ys : List ℕ) → length (widenSheet P Q xs ys) < 2 ^ 24
+  sheet-packs xs ys =
+      let a = tabled-length (λ r. getD xs (narrowRow (length (Q .pins)) (P .seesA) (Q .seesA) r) 0) 0 (jobBoard Q .rowsA) in
+      let b = tabled-length (λ r. getD ys (narrowRow (length (Q .pins)) (P .seesB) (Q .seesB) r) 0) 0 (jobBoard Q .rowsB) in
+      omega (arith, tables-length (widenTable (length (Q .pins)) (P .seesA) (Q .seesA) xs) (widenTable (length (Q .pins)) (P .seesB) (Q .seesB) ys))
+
+  judged-packs : (v : AnswerVerdict) → readAnswer (jobBoard P .rowsA) (jobBoard P .rowsB) (jobBoard P .combinations) s ≡ v → Packs (judged P Q v entry .outcome)
+  judged-packs (answered (tables xs ys)) e =
+      pick-ending (eqb (judgeTables (jobBoard P) (xs ++ ys) .code) 20) (fitting P Q xs ys entry) (refusing (judgeTables (jobBoard P) (xs ++ ys)) entry)
+      (pick-ending (asksb P Q) (pick (ltb (length entry) longestAnswer) (refusing (refusal 6 0 0) entry) (writing (widenSheet P Q xs ys) entry)) (refusing (refusal 14 3 0) entry)
+      (pick-ending (ltb (length entry) longestAnswer) (refusing (refusal 6 0 0) entry) (writing (widenSheet P Q xs ys) entry)
+      (refusal-packs 6 0 0 (omega arith) (omega arith) (omega arith)) (success-packs 20 (length (widenSheet P Q xs ys)) (omega arith) (sheet-packs xs ys)))
+      (refusal-packs 14 3 0 (omega arith) (omega arith) (omega arith)))
+      (judge-packs (jobBoard P) few few-a few-b s (answered (tables xs ys)) e)
+  judged-packs (answered (walk es)) e =
+      pick-ending (eqb (judgeWalk (jobBoard P) es .code) 21) (refusing (refusal 15 2 0) entry) (refusing (judgeWalk (jobBoard P) es) entry)
+      (refusal-packs 15 2 0 (omega arith) (omega arith) (omega arith))
+      (judge-packs (jobBoard P) few few-a few-b s (answered (walk es)) e)
+  judged-packs (unanswered w) e = judge-packs (jobBoard P) few few-a few-b s (unanswered w) e
+
+q-packs : (p q s entry : List ℕ) (P : Job) → readJob p ≡ accepted P → (v : Verdict) → readJob q ≡ v → Packs (withP P v s entry .outcome)
+q-packs p q s entry P isP (accepted Q) e =
+    let b = job-bounds p P isP in
+    let m = seen-bounds p P isP in
+    let k = seen-bounds q Q e in
+    judged-packs P Q s entry (pow-mono (b .0)) (pow-mono (m .0)) (pow-mono (m .1)) (pow-mono (k .0)) (pow-mono (k .1))
+    (readAnswer (jobBoard P .rowsA) (jobBoard P .rowsB) (jobBoard P .combinations) s) refl
+q-packs p q s entry P isP (rejected w) e =
+    refusal-packs (codeOf w) 3 (placeOf w) (code-small w) (omega arith) (omega (arith, place-small q w e))
+
+p-packs : (p q s entry : List ℕ) (v : Verdict) → readJob p ≡ v → Packs (withNone v q s entry .outcome)
+p-packs p q s entry (accepted P) e = q-packs p q s entry P e (readJob q) refl
+p-packs p q s entry (rejected w) e =
+    refusal-packs (codeOf w) 1 (placeOf w) (code-small w) (omega arith) (omega (arith, place-small p w e))
+
+pub widen-packs : (p q s entry : List ℕ) → Packs (widened p q s entry .outcome)
+unfolding widened
+widen-packs p q s entry = p-packs p q s entry (readJob p) refl
+
+pub widen-found : (p q s entry : List ℕ) → unpack (pack (widened p q s entry .outcome)) ≡ widened p q s entry .outcome
+widen-found p q s entry = unpack-pack (widened p q s entry .outcome) (widen-packs p q s entry)

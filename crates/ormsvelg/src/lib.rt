@@ -6,6 +6,7 @@ ghost use mathlib.Core.Path.{_≡_};
 ghost use Rattle.sheet.specs.JobSheet.{readOutcome};
 ghost use Rattle.board.specs.Check.{checkOutcome};
 ghost use Rattle.solver.specs.Solved.{Solved};
+ghost use Rattle.widener.specs.Widened.{widened};
 ghost use Rattle.ormsvelg.specs.Packed.{pack, unpack, Packs};
 
 // The four numbers of an outcome in one.
@@ -41,4 +42,13 @@ pub extern "C" fn ormsvelg_solve(job: &[u8], answer: &mut [u8]) -> u64
     ensures { λ r. ⌜ Solved (now (job .entry)) (now (answer .entry)) (unpack r) (now (answer .exit)) ⌝ }
 {
     packed(solver::solve(job, answer))
+}
+
+// The outcome of widening an answer for the job P to the job Q; on success the tables sheet for Q is at the front of `out`.
+#[no_mangle]
+pub extern "C" fn ormsvelg_widen(p: &[u8], q: &[u8], answer: &[u8], out: &mut [u8]) -> u64
+    ensures { λ r. ⌜ r ≡ pack (widened (now (p .entry)) (now (q .entry)) (now (answer .entry)) (now (out .entry)) .outcome) ⌝ }
+    ensures { λ r. ⌜ now (out .exit) ≡ widened (now (p .entry)) (now (q .entry)) (now (answer .entry)) (now (out .entry)) .exit ⌝ }
+{
+    packed(widener::widen(p, q, answer, out))
 }
