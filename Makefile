@@ -4,11 +4,12 @@
 #   make read JOB=FILE                what the reader says of a job sheet, in words
 #   make check JOB=FILE ANSWER=FILE   what the checker says of an answer sheet for a job sheet, in words
 #   make host-test                    the C tests over the static library
-#   make compare SEED=1 COUNT=200000  random cases of each call against the independent second program
+#   make compare SEED=1 COUNT=50000   random cases, so many of each call, against the independent second program
 #   make speed                        the library's times against plain C and C++, native
 
 SEED ?= 1
-COUNT ?= 200000
+# Without a count each call has its own.
+COUNT ?=
 
 LIBRARY = target/staticlib/libormsvelg.a
 C = -std=c11 -Wall -Wextra -Werror
@@ -69,7 +70,7 @@ build/second/compare: $(wildcard second/*.rs)
 	rustc -O --edition 2021 -o $@ second/main.rs
 
 compare: build/drive build/second/compare
-	build/second/compare --seed $(SEED) --count $(COUNT) -- tools/x86 run build/drive
+	build/second/compare --seed $(SEED) $(COUNT:%=--count %) -- tools/x86 run build/drive
 
 build/native/libormsvelg.a: $(PROVED) tools/native-archive
 	tools/native-archive ormsvelg $@
