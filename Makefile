@@ -1,20 +1,22 @@
 # Ormsvelg: what there is to run. Build outputs go to build/, what rt proves and writes to target/.
 #   make test                         the whole gate, .ci/run
+#   make run JOB=FILE                 the answer for a job sheet, as the bench prints it
 #   make read JOB=FILE                what the reader says of a job sheet, in words
 #   make check JOB=FILE ANSWER=FILE   what the checker says of an answer sheet for a job sheet, in words
 #   make host-test                    the C tests over the static library
-#   make compare SEED=1 COUNT=200000  random cases of each call against the independent second program
+#   make compare SEED=1 COUNT=50000   random cases, so many of each call, against the independent second program
 #   make speed                        the library's times against plain C and C++, native
 
 SEED ?= 1
-COUNT ?= 200000
+# Without a count each call has its own.
+COUNT ?=
 
 LIBRARY = target/staticlib/libormsvelg.a
 C = -std=c11 -Wall -Wextra -Werror
 HOST = tools/x86 cc $(C) -O2 -Iinclude
 PROVED = crates.txt $(shell find crates -name '*.rt' -o -name '*.antt')
 
-.PHONY: test read check host-test host-test-sanitized compare speed clean
+.PHONY: test run read check host-test host-test-sanitized compare speed clean
 
 test:
 	.ci/run
@@ -22,7 +24,7 @@ test:
 $(LIBRARY): $(PROVED)
 	rt staticlib ormsvelg
 
-build/read build/check: build/%: host/%.c host/sheet.h include/ormsvelg.h tools/x86 $(LIBRARY)
+build/read build/check build/run: build/%: host/%.c host/sheet.h include/ormsvelg.h tools/x86 $(LIBRARY)
 	@mkdir -p build
 	$(HOST) -o $@ host/$*.c $(LIBRARY)
 
@@ -30,28 +32,34 @@ read: build/read
 	@test -n "$(JOB)" || { echo "usage: make read JOB=FILE"; exit 2; }
 	@tools/x86 run build/read "$(JOB)" || [ $$? -eq 1 ]
 
+run: build/run
+	@test -n "$(JOB)" || { echo "usage: make run JOB=FILE"; exit 2; }
+	@tools/x86 run build/run "$(JOB)" || [ $$? -eq 1 ]
+
 check: build/check
 	@test -n "$(JOB)" && test -n "$(ANSWER)" || { echo "usage: make check JOB=FILE ANSWER=FILE"; exit 2; }
 	@tools/x86 run build/check "$(JOB)" "$(ANSWER)" || [ $$? -eq 1 ]
 
-build/host-test: host/test.c include/ormsvelg.h tools/x86 $(LIBRARY)
+build/test build/test_solve: build/%: host/%.c include/ormsvelg.h tools/x86 $(LIBRARY)
 	@mkdir -p build
-	$(HOST) -o $@ host/test.c $(LIBRARY)
+	$(HOST) -o $@ host/$*.c $(LIBRARY)
 
-build/host-test-sanitized: host/test.c include/ormsvelg.h tools/x86 $(LIBRARY)
+build/test-sanitized build/test_solve-sanitized: build/%-sanitized: host/%.c include/ormsvelg.h tools/x86 $(LIBRARY)
 	@mkdir -p build
-	$(HOST) -O0 -g -fsanitize=address,undefined -fno-sanitize-recover=all -o $@ host/test.c $(LIBRARY)
+	$(HOST) -O0 -g -fsanitize=address,undefined -fno-sanitize-recover=all -o $@ host/$*.c $(LIBRARY)
 
-host-test: build/host-test
-	tools/x86 run build/host-test
+host-test: build/test build/test_solve
+	tools/x86 run build/test
+	tools/x86 run build/test_solve
 ifeq ($(shell uname -m),x86_64)
 	$(MAKE) --no-print-directory host-test-sanitized
 else
 	@echo "skipped: sanitizers run on x86-64 alone"
 endif
 
-host-test-sanitized: build/host-test-sanitized
-	tools/x86 run build/host-test-sanitized
+host-test-sanitized: build/test-sanitized build/test_solve-sanitized
+	tools/x86 run build/test-sanitized
+	tools/x86 run build/test_solve-sanitized
 
 build/drive: host/drive.c tools/x86 $(LIBRARY)
 	@mkdir -p build
@@ -62,7 +70,7 @@ build/second/compare: $(wildcard second/*.rs)
 	rustc -O --edition 2021 -o $@ second/main.rs
 
 compare: build/drive build/second/compare
-	build/second/compare --seed $(SEED) --count $(COUNT) -- tools/x86 run build/drive
+	build/second/compare --seed $(SEED) $(COUNT:%=--count %) -- tools/x86 run build/drive
 
 build/native/libormsvelg.a: $(PROVED) tools/native-archive
 	tools/native-archive ormsvelg $@

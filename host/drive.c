@@ -3,7 +3,7 @@
    A request is an op byte, then for each slice of the call a length (4 bytes, low byte first) and its bytes.
    The response is the packed outcome (8 bytes, low byte first), then the bytes of each buffer the call may write.
    Each slice lies between guard bytes. A call that touches a guard or a slice it may only read ends this with 3.
-   It leans on read, write and _exit alone, and on no header, so that it compiles where no C library is laid out. */
+   It leans on read, write, memcpy and _exit alone, and on no header: it compiles where no C library is laid out. */
 
 typedef unsigned char byte;
 typedef unsigned long size;    /* size_t on 64-bit Linux */
@@ -11,10 +11,12 @@ typedef unsigned long outcome; /* uint64_t on 64-bit Linux */
 
 extern long read(int file, void *bytes, size length);
 extern long write(int file, const void *bytes, size length);
+extern void *memcpy(void *to, const void *from, size length);
 extern void _exit(int status) __attribute__((noreturn));
 
 extern outcome ormsvelg_read(const byte *job, size job_len);
 extern outcome ormsvelg_check(const byte *job, size job_len, const byte *answer, size answer_len);
+extern outcome ormsvelg_solve(const byte *job, size job_len, byte *answer, size answer_len);
 
 enum {
     SLICES = 4,           /* the most slices that one call takes */
@@ -69,39 +71,55 @@ __attribute__((noreturn)) static void fail(int status, const char *line)
     _exit(status);
 }
 
-/* The next byte of standard input, or -1 at its end. Reading may wait, so what is gathered goes out first. */
-static int next_byte(void)
+/* Whether there is more input. Reading may wait, so what is gathered for the output goes out first. */
+static int has_input(void)
 {
-    if (input_at == input_end) {
-        long got;
-        flush();
-        got = read(0, input, BUFFER);
-        if (got < 0) fail(BAD_REQUEST, "drive: standard input can't be read\n");
-        if (got == 0) return -1;
-        input_at = 0;
-        input_end = (size)got;
+    long got;
+    if (input_at < input_end) return 1;
+    flush();
+    got = read(0, input, BUFFER);
+    if (got < 0) fail(BAD_REQUEST, "drive: standard input can't be read\n");
+    input_at = 0;
+    input_end = (size)got;
+    return got > 0;
+}
+
+/* Takes so many bytes of a request, in runs as long as the input holds. */
+static void take_bytes(byte *to, size length)
+{
+    while (length > 0) {
+        size run;
+        if (!has_input()) fail(BAD_REQUEST, "drive: input ends within a request\n");
+        run = input_end - input_at;
+        if (run > length) run = length;
+        memcpy(to, input + input_at, run);
+        input_at += run;
+        to += run;
+        length -= run;
     }
-    return input[input_at++];
 }
 
-static byte need_byte(void)
+static void put_bytes(const byte *from, size length)
 {
-    int got = next_byte();
-    if (got < 0) fail(BAD_REQUEST, "drive: input ends within a request\n");
-    return (byte)got;
-}
-
-static void put_byte(byte value)
-{
-    if (output_end == BUFFER) flush();
-    output[output_end++] = value;
+    while (length > 0) {
+        size run;
+        if (output_end == BUFFER) flush();
+        run = BUFFER - output_end;
+        if (run > length) run = length;
+        memcpy(output + output_end, from, run);
+        output_end += run;
+        from += run;
+        length -= run;
+    }
 }
 
 /* Takes one slice from the request and lays it between guards. Every second empty slice is lent as a null pointer. */
 static void take(struct lent *lent)
 {
+    byte number[4];
     size length = 0, i;
-    for (i = 0; i < 4; i++) length |= (size)need_byte() << (8 * i);
+    take_bytes(number, 4);
+    for (i = 0; i < 4; i++) length |= (size)number[i] << (8 * i);
     if (length > LONGEST) fail(BAD_REQUEST, "drive: a slice is too long\n");
     lent->length = length;
     lent->as_null = 0;
@@ -109,8 +127,10 @@ static void take(struct lent *lent)
         lent->as_null = empty_as_null;
         empty_as_null = !empty_as_null;
     }
-    for (i = 0; i < length; i++) lent->before[i] = lent->place[GUARDS + i] = need_byte();
-    for (i = 0; i < GUARDS; i++) lent->place[i] = lent->place[GUARDS + length + i] = guard[i];
+    take_bytes(lent->before, length);
+    memcpy(lent->place, guard, GUARDS);
+    memcpy(lent->place + GUARDS, lent->before, length);
+    memcpy(lent->place + GUARDS + length, guard, GUARDS);
 }
 
 static byte *bytes_of(int slice)
@@ -162,17 +182,16 @@ static void inspect(int slices, int written)
 /* Gives the outcome and the last `written` slices back, once the lent slices are found in order. */
 static void respond(outcome got, int slices, int written)
 {
-    size i;
-    int slice;
+    byte number[8];
+    int i;
     inspect(slices, written);
-    for (i = 0; i < 8; i++) put_byte((byte)(got >> (8 * i)));
-    for (slice = slices - written; slice < slices; slice++) {
-        for (i = 0; i < length_of(slice); i++) put_byte(lents[slice].place[GUARDS + i]);
-    }
+    for (i = 0; i < 8; i++) number[i] = (byte)(got >> (8 * i));
+    put_bytes(number, 8);
+    for (i = slices - written; i < slices; i++) put_bytes(lents[i].place + GUARDS, length_of(i));
 }
 
 /* Serves one request. A call more is a declaration above and a case here. */
-static void serve(int op)
+static void serve(byte op)
 {
     switch (op) {
     case 'r':
@@ -183,6 +202,10 @@ static void serve(int op)
         take_slices(2);
         respond(ormsvelg_check(bytes_of(0), length_of(0), bytes_of(1), length_of(1)), 2, 0);
         break;
+    case 's':
+        take_slices(2);
+        respond(ormsvelg_solve(bytes_of(0), length_of(0), bytes_of(1), length_of(1)), 2, 1);
+        break;
     default:
         fail(BAD_REQUEST, "drive: a request with an unknown op\n");
     }
@@ -190,8 +213,7 @@ static void serve(int op)
 
 int main(void)
 {
-    int op;
-    while ((op = next_byte()) >= 0) serve(op);
+    while (has_input()) serve(input[input_at++]);
     flush();
     return 0;
 }

@@ -1,4 +1,4 @@
-/* host/sheet.h: what host/read.c and host/check.c share: a sheet from a file, and an outcome in words.
+/* host/sheet.h: what the host programs share: a sheet from a file, and an outcome in words.
  * A success is `accepted`, `tables fit` or `walk stands`; a refusal is `refused CODE sheet S place P: REASON`.
  */
 #ifndef HOST_SHEET_H
@@ -12,7 +12,7 @@
 #define NO_SHEET 2
 
 /* Takes up to `room` bytes of a file. Gives 0, once it has said why, where the file can't be read. */
-static int load(const char *path, uint8_t *sheet, size_t room, size_t *length)
+static inline int load(const char *path, uint8_t *sheet, size_t room, size_t *length)
 {
     FILE *file = fopen(path, "rb");
     if (file == NULL) {
@@ -27,7 +27,7 @@ static int load(const char *path, uint8_t *sheet, size_t room, size_t *length)
     return !unread;
 }
 
-static const char *reason(uint32_t code)
+static inline const char *reason(uint32_t code)
 {
     switch (code) {
     case ORMSVELG_ENDS: return "job ends where a byte is called for";
@@ -35,6 +35,7 @@ static const char *reason(uint32_t code)
     case ORMSVELG_NOT_RISING: return "entry not above the one before";
     case ORMSVELG_TOO_HIGH: return "wire position or term not below its limit";
     case ORMSVELG_LEFT_OVER: return "bytes left over";
+    case ORMSVELG_NO_ROOM: return "buffer under 8,190 bytes";
     case ORMSVELG_WRONG_LENGTH: return "answer ends early or has bytes over";
     case ORMSVELG_OTHER_KIND: return "count of neither permitted kind";
     case ORMSVELG_NOT_A_BIT: return "table byte above 1";
@@ -47,7 +48,7 @@ static const char *reason(uint32_t code)
 }
 
 /* Prints an outcome and gives the exit status. */
-static int tell(uint64_t outcome)
+static inline int tell(uint64_t outcome)
 {
     uint32_t code = ormsvelg_code(outcome);
     switch (code) {

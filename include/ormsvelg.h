@@ -11,10 +11,10 @@
 
 /* Example:
  *     uint8_t job[] = {0, 0, 0, 0, 0};                no wires, no rules
- *     uint8_t answer[] = {1, 0, 0, 1, 0, 0, 0, 0};    tables: A 0, B 0
- *     uint64_t outcome = ormsvelg_check(job, sizeof job, answer, sizeof answer);
+ *     uint8_t answer[ORMSVELG_LONGEST_ANSWER];
+ *     uint64_t outcome = ormsvelg_solve(job, sizeof job, answer, sizeof answer);
  *     if (ormsvelg_code(outcome) == ORMSVELG_TABLES)
- *         printf("the tables fit\n");
+ *         printf("tables in %u bytes\n", ormsvelg_written(outcome));
  */
 
 /* The limits of the sheets. No longer sheet is accepted, and of a longer one the first ORMSVELG_LONGEST_JOB + 1
@@ -27,14 +27,15 @@
 
 /* Codes. Successes have sheet and place 0. The place of each refusal stands beside it. */
 #define ORMSVELG_ACCEPTED 0      /* reader: sheet accepted */
-#define ORMSVELG_TABLES 20       /* checker: tables that fit */
-#define ORMSVELG_WALK 21         /* checker: a walk that stands */
+#define ORMSVELG_TABLES 20       /* solver, checker: tables that fit */
+#define ORMSVELG_WALK 21         /* solver, checker: a walk that stands */
 /* Refusals of a job. The first fault on the sheet decides. */
 #define ORMSVELG_ENDS 1          /* job ends where a byte is called for: its length */
 #define ORMSVELG_TOO_MANY 2      /* count above its limit: the count's first byte */
 #define ORMSVELG_NOT_RISING 3    /* entry not above the one before: its offset */
 #define ORMSVELG_TOO_HIGH 4      /* wire position not below n, or term not below 2n+4: its offset */
 #define ORMSVELG_LEFT_OVER 5     /* bytes left over in a job: the first of them */
+#define ORMSVELG_NO_ROOM 6       /* answer buffer under ORMSVELG_LONGEST_ANSWER bytes, sheet 0: 0 */
 /* Refusals of an answer, sheet 2: first 7, 8, 9 and 11 in reading order, then 10, or 12 and then 13. */
 #define ORMSVELG_WRONG_LENGTH 7  /* answer ends early, or has bytes over: its length, or the first of them */
 #define ORMSVELG_OTHER_KIND 8    /* count of neither permitted kind after the counts before it: its first byte */
@@ -54,6 +55,11 @@ uint64_t ormsvelg_read(const uint8_t *job, size_t job_len);
 /* Checks an answer sheet against a job sheet. ORMSVELG_TABLES or ORMSVELG_WALK; else a refusal of sheet 1 with one
  * of the codes 1 to 5, or one of sheet 2 with one of the codes 7 to 13. Writes nothing. */
 uint64_t ormsvelg_check(const uint8_t *job, size_t job_len, const uint8_t *answer, size_t answer_len);
+
+/* Solves a job sheet. ORMSVELG_TABLES: the first fitting pair of tables; ORMSVELG_WALK: a walk that stands, so that no
+ * pair fits. The answer sheet is at the front of `answer`; its length is the bytes written, and bytes beyond it stay.
+ * Else a refusal of sheet 1 with one of the codes 1 to 5, or ORMSVELG_NO_ROOM; every byte stays. */
+uint64_t ormsvelg_solve(const uint8_t *job, size_t job_len, uint8_t *answer, size_t answer_len);
 
 #ifdef __cplusplus
 }

@@ -1,29 +1,33 @@
 // The cases of the checker: the answers that document 01 names, then random boards with answers right and wrong.
 // Each random board is expanded once, so that right answers are at hand, and then gets several answers.
-// It leans on make, damage, expand, spoil and check.
+// It leans on make, ties, damage, expand, spoil and check.
 
 use crate::answer::{Answer, Walk, LONGEST_WALK};
 use crate::board::{Board, Claim, Combination};
-use crate::case::{hex, Call, Case};
+use crate::case::{hex, Call, Case, Judgement, Known, USUAL_COUNT};
 use crate::check::check_outcome;
 use crate::damage::damage;
 use crate::expand::Expansion;
 use crate::job::{JobSheet, MOST_RULES, MOST_WIRES};
-use crate::make::{fitting_job, job_of_size, random_job, ring_job, tied_job};
+use crate::make::{fitting_job, job_of_size, random_job, tied_job};
 use crate::named::{EQUAL_AS_WIRES, J1, J2, J3, J4, J5, J6, J6_WIDENED, J7};
 use crate::outcome::{Outcome, Refusal, ANSWER, JOB};
 use crate::random::Random;
 use crate::spoil::{random_walk, spoil_sheet, spoil_tables, spoil_walk};
+use crate::ties::ring_job;
 
 const ANSWERS_EACH: usize = 12;
 
 pub const CHECKER: Call = Call {
     op: b'c',
     name: "check",
+    writes: 0,
+    count: USUAL_COUNT,
     codes: &[1, 2, 3, 4, 5, 7, 8, 9, 10, 11, 12, 13, 20, 21],
+    balanced: false,
     named: named_answers,
     make: random_answers,
-    expect: |slices| check_outcome(&slices[0], &slices[1]),
+    judge: |slices, _| Judgement::outcome(check_outcome(&slices[0], &slices[1])),
 };
 
 /// The answers that the paper names, and walks at both sides of the longest.
@@ -109,7 +113,7 @@ fn right_answer(board: &Board, expansion: &Expansion, random: &mut Random) -> (A
         }
         return (Answer::Tables(expansion.pair(&wishes)), 20);
     }
-    let walk = expansion.standing_walk(*random.choose(&conflicts));
+    let walk = expansion.steps.there_and_back(*random.choose(&conflicts));
     (Answer::Walk(vary(walk, random)), 21)
 }
 
@@ -136,7 +140,7 @@ fn closed_walk(job: &JobSheet, expansion: &Expansion, random: &mut Random) -> Op
         return None;
     }
     let claim = *random.choose(&closing);
-    let walk = vary(expansion.path(claim, claim), random);
+    let walk = vary(expansion.steps.path(claim, claim), random);
     let first = walk[0].0;
     let known = match walk.iter().any(|(other, _)| *other == first.opposite()) {
         true => Outcome::success(21),
@@ -173,5 +177,5 @@ fn random_bytes(random: &mut Random) -> Vec<u8> {
 }
 
 fn case(job: Vec<u8>, answer: Vec<u8>, known: Option<Outcome>) -> Case {
-    Case { slices: vec![job, answer], known }
+    Case { slices: vec![job, answer], known: known.map(Known::Outcome) }
 }

@@ -35,6 +35,14 @@ impl Board {
         Board { job }
     }
 
+    pub fn wires(&self) -> usize {
+        self.job.wires()
+    }
+
+    pub fn rules(&self) -> &[Vec<u8>] {
+        &self.job.rules
+    }
+
     /// The row count of a cell, 0 for A and 1 for B.
     pub fn rows(&self, cell: usize) -> usize {
         1 << self.job.sees[cell].len()

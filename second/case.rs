@@ -1,28 +1,89 @@
-// What the comparison is made of: a call of the C face, and the cases it is given.
+// What the comparison is made of: a call of the C face, the cases it is given, and the responses that come back.
 // A call brings its own cases and its own judgement of them; the comparison itself knows neither sheets nor rules.
 // It leans on random and outcome.
 
-use crate::outcome::Outcome;
+use crate::outcome::{Outcome, TABLES, WALK};
 use crate::random::Random;
+use std::fmt;
 
-/// The slices of one call, and the outcome where the making of the case settles it.
+/// The count of cases for a call whose cases are quick.
+pub const USUAL_COUNT: usize = 200_000;
+
+/// The slices of one call, and what the making of the case settles of the response.
 pub struct Case {
     pub slices: Vec<Vec<u8>>,
-    pub known: Option<Outcome>,
+    pub known: Option<Known>,
+}
+
+pub enum Known {
+    Outcome(Outcome),
+    /// Success with these tables, as their answer sheet.
+    Tables(Vec<u8>),
+    /// Success with a walk, whichever.
+    Walk,
+}
+
+impl Known {
+    pub fn agrees(&self, response: &Response) -> bool {
+        match self {
+            Known::Outcome(outcome) => response.outcome == *outcome,
+            Known::Tables(sheet) => {
+                response.outcome == Outcome::wrote(TABLES, sheet.len()) && response.after[0].starts_with(sheet)
+            }
+            Known::Walk => response.outcome.code == WALK as u64,
+        }
+    }
+}
+
+impl fmt::Display for Known {
+    fn fmt(&self, out: &mut fmt::Formatter) -> fmt::Result {
+        match self {
+            Known::Outcome(outcome) => write!(out, "{outcome}"),
+            Known::Tables(sheet) => write!(out, "the tables {}", to_hex(sheet)),
+            Known::Walk => write!(out, "a walk"),
+        }
+    }
+}
+
+#[derive(PartialEq, Eq)]
+pub struct Response {
+    pub outcome: Outcome,
+    /// The slices that the call may write, as it left them.
+    pub after: Vec<Vec<u8>>,
+}
+
+/// The response that this program comes to.
+pub struct Judgement {
+    pub expected: Response,
+    /// What is wrong with an answer of which several are right.
+    pub fault: Option<String>,
+}
+
+impl Judgement {
+    /// For a call that writes nothing.
+    pub fn outcome(outcome: Outcome) -> Judgement {
+        Judgement { expected: Response { outcome, after: Vec::new() }, fault: None }
+    }
 }
 
 pub struct Call {
     /// The byte that asks for this call over the pipe.
     pub op: u8,
     pub name: &'static str,
+    /// How many of its slices it may write; they are the last ones.
+    pub writes: usize,
+    /// How many cases are made where the command line does not say.
+    pub count: usize,
     /// The codes it can answer; each must be met often.
     pub codes: &'static [u64],
+    /// Whether tables and walks must both make up a good part of the answers.
+    pub balanced: bool,
     /// Cases that come first, whatever the seed.
     pub named: fn(&mut Random) -> Vec<Case>,
     /// One random case, or some that belong together.
     pub make: fn(&mut Random) -> Vec<Case>,
-    /// This program's own outcome.
-    pub expect: fn(&[Vec<u8>]) -> Outcome,
+    /// What this program makes of the slices. The command's own response counts where several answers are right.
+    pub judge: fn(&[Vec<u8>], &Response) -> Judgement,
 }
 
 /// Bytes from hexadecimal with spaces between.

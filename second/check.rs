@@ -4,11 +4,9 @@
 
 use crate::answer::{Answer, Walk, LONGEST_WALK};
 use crate::board::{Board, Claim, Combination};
-use crate::outcome::{Outcome, Refusal, ANSWER, JOB};
+use crate::outcome::{Outcome, Refusal, ANSWER, JOB, TABLES, WALK};
 use crate::read::read_job;
 
-const TABLES: u8 = 20;
-const WALK: u8 = 21;
 const WRONG_LENGTH: u8 = 7;
 const WRONG_COUNT: u8 = 8;
 const NO_TABLE_BYTE: u8 = 9;

@@ -2,7 +2,7 @@
 // About a third is accepted, a half is damaged in one place, the rest is random bytes and sheets beyond all lengths.
 // It leans on make, damage and read.
 
-use crate::case::{hex, Call, Case};
+use crate::case::{hex, Call, Case, Judgement, Known, USUAL_COUNT};
 use crate::damage::{damage, Damaged};
 use crate::job::{JobSheet, LONGEST_JOB};
 use crate::make::{longest_job, random_job};
@@ -18,10 +18,13 @@ const LONGEST_SLICE: usize = 65536;
 pub const READER: Call = Call {
     op: b'r',
     name: "read",
+    writes: 0,
+    count: USUAL_COUNT,
     codes: &[0, 1, 2, 3, 4, 5],
+    balanced: false,
     named: named_sheets,
     make: random_sheets,
-    expect: |slices| read_outcome(&slices[0]),
+    judge: |slices, _| Judgement::outcome(read_outcome(&slices[0])),
 };
 
 /// Sheets whose outcome the paper or a close reading of it settles.
@@ -94,7 +97,7 @@ fn beyond_all_lengths(random: &mut Random) -> Vec<Case> {
 }
 
 fn case(bytes: Vec<u8>, known: Option<Outcome>) -> Case {
-    Case { slices: vec![bytes], known }
+    Case { slices: vec![bytes], known: known.map(Known::Outcome) }
 }
 
 fn accepted(bytes: Vec<u8>) -> Case {

@@ -1,7 +1,7 @@
 // The second program: makes cases, judges each by document 01 alone, and compares with the proved library.
 // It is written apart from the library, so that an error in both at the same place is unlikely.
 // Usage: compare [--seed N] [--count N] -- COMMAND ARGS..   The command speaks the protocol of host/drive.c.
-// It leans on jobs and answers for the cases and on pipe for the command.
+// It leans on jobs, answers and tasks for the cases and on pipe for the command.
 
 mod answer;
 mod answers;
@@ -18,10 +18,15 @@ mod outcome;
 mod pipe;
 mod random;
 mod read;
+mod shapes;
+mod solve;
 mod spoil;
+mod steps;
+mod tasks;
+mod ties;
 
-use case::{to_hex, Call, Case};
-use outcome::Outcome;
+use case::{to_hex, Call, Case, Judgement, Response};
+use outcome::{TABLES, WALK};
 use pipe::{Requests, Responses};
 use random::Random;
 use std::collections::BTreeMap;
@@ -29,19 +34,26 @@ use std::process::ExitCode;
 use std::sync::mpsc::{channel, Receiver, Sender};
 use std::thread;
 
-const CALLS: &[Call] = &[jobs::READER, answers::CHECKER];
+const CALLS: &[Call] = &[jobs::READER, answers::CHECKER, tasks::SOLVER];
 
 const USAGE: &str = "usage: compare [--seed N] [--count N] -- COMMAND ARGS..";
 const SEED: u64 = 1;
-/// Cases for each call.
-const COUNT: usize = 200_000;
-/// How often each code must be met among so many cases.
+/// How often each code must be met: once in so many cases, but no more than so often.
+const ONCE_IN: usize = 200;
 const OFTEN: usize = 1_000;
+/// The least part of the answers, in percent, that tables and walks must have; fewer answers say nothing.
+const LEAST_PART: usize = 40;
+const FEW_ANSWERS: usize = 1_000;
 const MOST_DIFFERENCES: usize = 5;
+/// So many bytes are shown from where two slices differ.
+const SHOWN: usize = 16;
+
+type Tally = BTreeMap<u64, usize>;
 
 struct Settings {
     seed: u64,
-    count: usize,
+    /// Cases for each call; each has its own count if none is given.
+    count: Option<usize>,
     command: Vec<String>,
 }
 
@@ -59,11 +71,11 @@ fn main() -> ExitCode {
 }
 
 fn settings(mut arguments: impl Iterator<Item = String>) -> Result<Settings, String> {
-    let mut settings = Settings { seed: SEED, count: COUNT, command: Vec::new() };
+    let mut settings = Settings { seed: SEED, count: None, command: Vec::new() };
     while let Some(argument) = arguments.next() {
         match argument.as_str() {
             "--seed" => settings.seed = number(arguments.next())?,
-            "--count" => settings.count = number(arguments.next())? as usize,
+            "--count" => settings.count = Some(number(arguments.next())? as usize),
             "--" => settings.command = arguments.by_ref().collect(),
             _ => return Err(USAGE.into()),
         }
@@ -84,19 +96,22 @@ fn compare_all(settings: &Settings) -> Result<usize, String> {
     for call in CALLS {
         let tally = compare(call, settings)?;
         cases += tally.values().sum::<usize>();
-        report(call, &tally, settings.count)?;
+        report(call, &tally)?;
+        if call.balanced {
+            report_balance(call, &tally)?;
+        }
     }
     Ok(cases)
 }
 
 /// Prints how often each code was met, and refuses a comparison that hardly meets one of them.
-fn report(call: &Call, tally: &BTreeMap<u64, usize>, count: usize) -> Result<(), String> {
-    let often = OFTEN * count.min(COUNT) / COUNT;
+fn report(call: &Call, tally: &Tally) -> Result<(), String> {
+    let often = OFTEN.min(tally.values().sum::<usize>() / ONCE_IN);
     for (code, met) in tally {
         println!("{}: code {code} met by {met} cases", call.name);
     }
     for code in call.codes {
-        let met = tally.get(code).copied().unwrap_or(0);
+        let met = met(tally, *code);
         if met < often {
             return Err(format!("{}: code {code} is met by {met} cases, and {often} are wanted", call.name));
         }
@@ -104,11 +119,26 @@ fn report(call: &Call, tally: &BTreeMap<u64, usize>, count: usize) -> Result<(),
     Ok(())
 }
 
+fn met(tally: &Tally, code: u64) -> usize {
+    tally.get(&code).copied().unwrap_or(0)
+}
+
+/// Prints how many boards had tables and how many a walk, and refuses a comparison with too few of either.
+fn report_balance(call: &Call, tally: &Tally) -> Result<(), String> {
+    let (tables, walks) = (met(tally, TABLES as u64), met(tally, WALK as u64));
+    let answers = tables + walks;
+    println!("{}: {answers} boards answered, {tables} with tables and {walks} with a walk", call.name);
+    if answers >= FEW_ANSWERS && 100 * tables.min(walks) < LEAST_PART * answers {
+        return Err(format!("{}: tables and walks must each be {LEAST_PART} percent of the answers", call.name));
+    }
+    Ok(())
+}
+
 /// Runs one call's cases through the command and through this program: how often each code was met.
-fn compare(call: &'static Call, settings: &Settings) -> Result<BTreeMap<u64, usize>, String> {
+fn compare(call: &'static Call, settings: &Settings) -> Result<Tally, String> {
     let (requests, mut responses) = pipe::start(&settings.command, call.op)?;
     let (sender, cases) = channel();
-    let (seed, count) = (settings.seed, settings.count);
+    let (seed, count) = (settings.seed, settings.count.unwrap_or(call.count));
     let writer = thread::spawn(move || send_cases(call, requests, sender, Random::new(seed), count));
     let judged = judge_cases(call, &cases, &mut responses);
     match judged {
@@ -151,19 +181,15 @@ enum Trouble {
     NoResponse { answered: usize, error: std::io::Error },
 }
 
-fn judge_cases(
-    call: &Call,
-    cases: &Receiver<Case>,
-    responses: &mut Responses,
-) -> Result<BTreeMap<u64, usize>, Trouble> {
-    let mut tally = BTreeMap::new();
+fn judge_cases(call: &Call, cases: &Receiver<Case>, responses: &mut Responses) -> Result<Tally, Trouble> {
+    let mut tally = Tally::new();
     let (mut answered, mut differences) = (0, 0);
     for case in cases {
-        let packed = responses.next().map_err(|error| Trouble::NoResponse { answered, error })?;
+        let got = responses.next(&case, call.writes).map_err(|error| Trouble::NoResponse { answered, error })?;
         answered += 1;
-        let expected = (call.expect)(&case.slices);
-        *tally.entry(expected.code).or_insert(0) += 1;
-        if !agree(call, &case, Outcome::unpack(packed), expected) {
+        let judgement = (call.judge)(&case.slices, &got);
+        *tally.entry(judgement.expected.outcome.code).or_insert(0) += 1;
+        if !agree(call, &case, &got, &judgement) {
             differences += 1;
         }
         if differences == MOST_DIFFERENCES {
@@ -177,19 +203,36 @@ fn judge_cases(
 }
 
 /// Whether the command, this program and the making of the case agree; prints the case where they don't.
-fn agree(call: &Call, case: &Case, got: Outcome, expected: Outcome) -> bool {
-    let known = case.known.unwrap_or(expected);
-    if got == expected && expected == known {
+fn agree(call: &Call, case: &Case, got: &Response, judgement: &Judgement) -> bool {
+    let Judgement { expected, fault } = judgement;
+    let otherwise = case.known.as_ref().filter(|known| !known.agrees(expected));
+    if got == expected && fault.is_none() && otherwise.is_none() {
         return true;
     }
-    println!("{}: outcomes differ", call.name);
-    for slice in &case.slices {
+    println!("{}: responses differ", call.name);
+    for slice in &case.slices[..case.slices.len() - call.writes] {
         println!("  slice of {} bytes: {}", slice.len(), to_hex(slice));
     }
-    println!("  command:        {got}");
-    println!("  second program: {expected}");
-    if known != expected {
+    println!("  command:        {}", got.outcome);
+    println!("  second program: {}", expected.outcome);
+    for (bytes, wanted) in got.after.iter().zip(&expected.after) {
+        print_difference(bytes, wanted);
+    }
+    if let Some(fault) = fault {
+        println!("  {fault}");
+    }
+    if let Some(known) = otherwise {
         println!("  settled by how the case was made: {known}");
     }
     false
+}
+
+/// The first bytes in which a written slice is not as this program wants it.
+fn print_difference(bytes: &[u8], wanted: &[u8]) {
+    if let Some(place) = (0..bytes.len()).find(|place| bytes[*place] != wanted[*place]) {
+        let shown = place..bytes.len().min(place + SHOWN);
+        println!("  of {} bytes lent, from place {place} on", bytes.len());
+        println!("    command:        {}", to_hex(&bytes[shown.clone()]));
+        println!("    second program: {}", to_hex(&wanted[shown]));
+    }
 }

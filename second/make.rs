@@ -57,34 +57,6 @@ pub fn tied_job(random: &mut Random) -> Job {
     job
 }
 
-/// A job whose rules tie rows of A and B in one long ring, so that its walks are long.
-pub fn ring_job(random: &mut Random) -> Job {
-    let half = if random.once_in(40) { MOST_WIRES / 2 } else { random.within(1, 3) };
-    let wires = 2 * half;
-    let mut job = job_of_size(random, wires, 0);
-    let seen_by_a = random.rising(half, wires);
-    let seen_by_b: Vec<usize> = (0..wires).filter(|wire| !seen_by_a.contains(wire)).collect();
-    let ties_of_each = random.within(1, 1 << half);
-    let mut rows = [0, 1].map(|_| (0..1 << half).collect::<Vec<usize>>());
-    rows.iter_mut().for_each(|list| random.shuffle(list));
-    for tie in 0..2 * ties_of_each {
-        let row_a = rows[0][tie.div_ceil(2) % ties_of_each];
-        let row_b = rows[1][tie / 2];
-        let combination = spread_out(row_a, &seen_by_a) + spread_out(row_b, &seen_by_b);
-        let guard: Vec<usize> = (0..wires).map(|wire| 2 * wire + (combination >> wire & 1)).collect();
-        let (a, b) = (2 * wires, 2 * wires + 2 + random.below(2));
-        job.rules.push(to_bytes([guard.clone(), vec![a, b]].concat()));
-        job.rules.push(to_bytes([guard, vec![a ^ 1, b ^ 1]].concat()));
-    }
-    job.sees = [to_bytes(seen_by_a), to_bytes(seen_by_b)];
-    job
-}
-
-/// The combination that shows the row, with all wires that are not seen at 0.
-fn spread_out(row: usize, seen: &[usize]) -> usize {
-    seen.iter().enumerate().map(|(weight, wire)| (row >> weight & 1) << wire).sum()
-}
-
 /// A job that a pair fits, however many rules it has.
 /// Each cell can copy the last wire it sees, or hold 1 if it sees none.
 pub fn fitting_job(random: &mut Random, wires: usize, rules: usize) -> Job {
@@ -156,7 +128,7 @@ fn rule(random: &mut Random, job: &Job) -> Vec<u8> {
 }
 
 /// A rule with some term and its negation.
-fn always_holding(random: &mut Random, terms: usize) -> Vec<u8> {
+pub fn always_holding(random: &mut Random, terms: usize) -> Vec<u8> {
     let plain = 2 * random.below(terms / 2);
     let count = random.within(0, 3);
     let mut rule = random.rising(count, terms);
@@ -170,6 +142,6 @@ fn every_term(wires: usize) -> Vec<u8> {
     (0..term_limit(wires)).map(|term| term as u8).collect()
 }
 
-fn to_bytes(numbers: Vec<usize>) -> Vec<u8> {
+pub fn to_bytes(numbers: Vec<usize>) -> Vec<u8> {
     numbers.into_iter().map(|number| number as u8).collect()
 }

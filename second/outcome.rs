@@ -18,6 +18,10 @@ pub struct Outcome {
     pub written: u64,
 }
 
+pub const TABLES: u8 = 20;
+pub const WALK: u8 = 21;
+
+pub const NO_SHEET: u64 = 0;
 pub const JOB: u64 = 1;
 pub const ANSWER: u64 = 2;
 
@@ -25,6 +29,11 @@ impl Outcome {
     /// A success that writes nothing.
     pub fn success(code: u8) -> Outcome {
         Outcome { code: code as u64, sheet: 0, place: 0, written: 0 }
+    }
+
+    /// A success that writes an answer sheet of so many bytes.
+    pub fn wrote(code: u8, bytes: usize) -> Outcome {
+        Outcome { written: bytes as u64, ..Outcome::success(code) }
     }
 
     pub fn refused(refusal: Refusal, sheet: u64) -> Outcome {

@@ -1,9 +1,11 @@
 // Runs the command under comparison and talks to it over a pipe.
 // One thread writes requests while the other reads responses, so neither side waits for the other for ever.
-// A request is the op byte, then each slice's length (4 bytes, low byte first) and bytes; a response is 8 bytes.
-// It leans on case and the standard library's processes.
+// A request is the op byte, then each slice's length (4 bytes, low byte first) and bytes.
+// A response is the packed outcome, 8 bytes, then the bytes of each slice that the call may write.
+// It leans on case, outcome and the standard library's processes.
 
-use crate::case::Case;
+use crate::case::{Case, Response};
+use crate::outcome::Outcome;
 use std::io::{self, BufReader, BufWriter, Read, Write};
 use std::process::{Child, ChildStdin, ChildStdout, Command, Stdio};
 use std::thread;
@@ -48,11 +50,17 @@ impl Requests {
 }
 
 impl Responses {
-    /// The packed outcome of the next case.
-    pub fn next(&mut self) -> io::Result<u64> {
+    /// The response to the next case, of whose slices the call may write so many.
+    pub fn next(&mut self, case: &Case, writes: usize) -> io::Result<Response> {
         let mut packed = [0; 8];
         self.pipe.read_exact(&mut packed)?;
-        Ok(u64::from_le_bytes(packed))
+        let mut after = Vec::with_capacity(writes);
+        for slice in &case.slices[case.slices.len() - writes..] {
+            let mut bytes = vec![0; slice.len()];
+            self.pipe.read_exact(&mut bytes)?;
+            after.push(bytes);
+        }
+        Ok(Response { outcome: Outcome::unpack(u64::from_le_bytes(packed)), after })
     }
 
     /// After the last case the command must say nothing more and end with status 0.

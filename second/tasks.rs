@@ -1,0 +1,186 @@
+// The cases of the solver: the jobs that document 01 names, then random boards of every shape.
+// Most of these lie near the line between tables and walk, where one rule decides.
+// Answer buffers are full of random bytes, with room enough or too little.
+// Small boards are settled by trying every pair in order, so that this program's own solver is tested too.
+// It leans on make, shapes, ties, damage, solve and check.
+
+use crate::answer::Answer;
+use crate::board::Board;
+use crate::case::{hex, Call, Case, Judgement, Known, Response};
+use crate::check::check;
+use crate::damage::damage;
+use crate::job::{Job, JobSheet, MOST_RULES, MOST_WIRES};
+use crate::make::{fitting_job, job_of_size, longest_job, random_job, tied_job};
+use crate::named::{EQUAL_AS_WIRES, J1, J2, J3, J4, J5, J6, J6_WIDENED, J7};
+use crate::outcome::{Outcome, Refusal, JOB, NO_SHEET, TABLES, WALK};
+use crate::random::Random;
+use crate::read::read_job;
+use crate::shapes::{job_near_line, largest_near_line};
+use crate::solve::solve;
+use crate::ties::{chain_job, ring_job};
+
+/// The longest answer sheet, and the room that is asked for.
+const ROOM: usize = 8190;
+const MOST_ROOM: usize = 65536;
+const NO_ROOM: u8 = 6;
+/// Every pair is tried on boards with so many rows and wires or fewer.
+const FEW_ROWS: usize = 8;
+const FEW_WIRES: usize = 5;
+
+pub const SOLVER: Call = Call {
+    op: b's',
+    name: "solve",
+    writes: 1,
+    count: 23_000,
+    codes: &[1, 2, 3, 4, 5, 6, 20, 21],
+    balanced: true,
+    named: named_tasks,
+    make: random_tasks,
+    judge,
+};
+
+/// The paper's jobs with its answers. Several walks may stand, so a walk is only known to be one.
+fn named_tasks(random: &mut Random) -> Vec<Case> {
+    let tables = |a: &[u8], b: &[u8]| Known::Tables(Answer::Tables([a.to_vec(), b.to_vec()]).sheet());
+    let of_job = |code, place| Known::Outcome(Outcome::refused(Refusal { code, place }, JOB));
+    let cases = [
+        (J1, ROOM, Known::Tables(hex("01 00 00 01 00 00 00 00"))),
+        (J2, ROOM, tables(&[0, 0], &[1, 1])),
+        (J3, ROOM, Known::Walk),
+        (J4, ROOM, Known::Walk),
+        (J5, ROOM, tables(&[0], &[1])),
+        (J6, ROOM, tables(&[0], &[0, 1])),
+        (J7, ROOM, Known::Walk),
+        (J6_WIDENED, ROOM, tables(&[0, 0], &[0, 1])),
+        (EQUAL_AS_WIRES, ROOM, tables(&[0, 1], &[0, 1])),
+        (J2, ROOM + 1, tables(&[0, 0], &[1, 1])),
+        (J3, MOST_ROOM, Known::Walk),
+        (J1, ROOM - 1, no_room()),
+        (J3, ROOM - 1, no_room()),
+        (J1, 8, no_room()),
+        (J1, 0, no_room()),
+        (J4, 0, no_room()),
+        // A fault of the job comes before the want of room.
+        ("", 0, of_job(1, 0)),
+        ("", ROOM, of_job(1, 0)),
+        ("0D", ROOM - 1, of_job(2, 0)),
+        ("00 00 00 00 00 00", 0, of_job(5, 5)),
+    ];
+    cases.map(|(job, room, known)| case(hex(job), room, Some(known), random)).into()
+}
+
+fn random_tasks(random: &mut Random) -> Vec<Case> {
+    if random.once_in(9) {
+        return vec![refused_task(random)];
+    }
+    let job = task_job(random);
+    let sheet = JobSheet::of(&job).bytes;
+    let board = Board::of(job);
+    let few = board.all_rows() <= FEW_ROWS && board.wires() <= FEW_WIRES;
+    let known = few.then(|| by_trying(&board));
+    let room = match random.below(400) {
+        0 => random.within(ROOM, MOST_ROOM),
+        1..=100 => ROOM + random.within(1, 40),
+        _ => ROOM,
+    };
+    vec![case(sheet, room, known, random)]
+}
+
+/// A job of any family. Large boards take long, so there are few of them.
+fn task_job(random: &mut Random) -> Job {
+    match random.below(1000) {
+        0..=13 => largest_near_line(random),
+        14 => job_of_size(random, MOST_WIRES, MOST_RULES),
+        15 => fitting_job(random, MOST_WIRES, MOST_RULES),
+        16 => longest_job(random),
+        17..=80 => ring_job(random),
+        81..=160 => chain_job(random),
+        161..=220 => random_job(random),
+        221..=350 => tied_job(random),
+        351..=380 => {
+            let (wires, rules) = (random.within(0, 7), random.within(0, 20));
+            fitting_job(random, wires, rules)
+        }
+        _ => job_near_line(random),
+    }
+}
+
+/// A job with a fault and any room, or one without a fault and too little room.
+fn refused_task(random: &mut Random) -> Case {
+    let job = if random.once_in(2) { random_job(random) } else { tied_job(random) };
+    let sheet = JobSheet::of(&job);
+    let room = match random.below(6) {
+        0 | 1 => ROOM - 1,
+        2 => 0,
+        3 => random.below(16),
+        _ => random.below(ROOM),
+    };
+    if random.once_in(4) {
+        return case(sheet.bytes, room, Some(no_room()), random);
+    }
+    let damaged = damage(&sheet, random);
+    let known = damaged.known.map(|refusal| Known::Outcome(Outcome::refused(refusal, JOB)));
+    let room = if random.once_in(2) { ROOM } else { room };
+    case(damaged.bytes, room, known, random)
+}
+
+fn no_room() -> Known {
+    Known::Outcome(Outcome::refused(Refusal { code: NO_ROOM, place: 0 }, NO_SHEET))
+}
+
+fn case(job: Vec<u8>, room: usize, known: Option<Known>, random: &mut Random) -> Case {
+    Case { slices: vec![job, random.bytes(room)], known }
+}
+
+/// The first of all pairs that this program's checker accepts. A's rows come first, and row 0 weighs most.
+fn by_trying(board: &Board) -> Known {
+    let rows = board.all_rows();
+    for pair in 0..1 << rows {
+        let values: Vec<u8> = (0..rows).rev().map(|weight| (pair >> weight & 1) as u8).collect();
+        let (table_a, table_b) = values.split_at(board.rows(0));
+        let sheet = Answer::Tables([table_a.to_vec(), table_b.to_vec()]).sheet();
+        if check(board, &sheet) == Ok(TABLES) {
+            return Known::Tables(sheet);
+        }
+    }
+    Known::Walk
+}
+
+fn judge(slices: &[Vec<u8>], got: &Response) -> Judgement {
+    let (job, before) = (&slices[0], &slices[1]);
+    let job = match read_job(job) {
+        Ok(job) => job,
+        Err(refusal) => return writing(Outcome::refused(refusal, JOB), &[], before),
+    };
+    if before.len() < ROOM {
+        return writing(Outcome::refused(Refusal { code: NO_ROOM, place: 0 }, NO_SHEET), &[], before);
+    }
+    let board = Board::of(job);
+    let answer = solve(&board);
+    let (sheet, code) = (answer.sheet(), if let Answer::Tables(_) = answer { TABLES } else { WALK });
+    assert!(check(&board, &sheet) == Ok(code), "an answer of this program is not accepted by its own checker");
+    if code == WALK && got.outcome.code == WALK as u64 {
+        return judge_walk(&board, before, got);
+    }
+    writing(Outcome::wrote(code, sheet.len()), &sheet, before)
+}
+
+/// Any walk is right that stands and is short enough.
+fn judge_walk(board: &Board, before: &[u8], got: &Response) -> Judgement {
+    let written = (got.outcome.written as usize).min(before.len());
+    let sheet = &got.after[0][..written];
+    let most = 4 * board.all_rows() - 2;
+    let fault = match check(board, sheet) {
+        Ok(WALK) if (written - 6) / 4 <= most => None,
+        Ok(WALK) => Some(format!("the walk has {} entries, and {most} are the most", (written - 6) / 4)),
+        Ok(_) => Some("the sheet holds no walk".into()),
+        Err(refusal) => Some(format!("the sheet is refused with {} at {}", refusal.code, refusal.place)),
+    };
+    Judgement { fault, ..writing(Outcome::wrote(WALK, written), sheet, before) }
+}
+
+/// This outcome, with this sheet at the buffer's front and all bytes behind it as before.
+fn writing(outcome: Outcome, sheet: &[u8], before: &[u8]) -> Judgement {
+    let after = [sheet, &before[sheet.len()..]].concat();
+    Judgement { expected: Response { outcome, after: vec![after] }, fault: None }
+}
