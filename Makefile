@@ -40,26 +40,28 @@ check: build/check
 	@test -n "$(JOB)" && test -n "$(ANSWER)" || { echo "usage: make check JOB=FILE ANSWER=FILE"; exit 2; }
 	@tools/x86 run build/check "$(JOB)" "$(ANSWER)" || [ $$? -eq 1 ]
 
-build/test build/test_solve: build/%: host/%.c include/ormsvelg.h tools/x86 $(LIBRARY)
+build/test build/test_solve build/test_widen: build/%: host/%.c host/lent.h include/ormsvelg.h tools/x86 $(LIBRARY)
 	@mkdir -p build
 	$(HOST) -o $@ host/$*.c $(LIBRARY)
 
-build/test-sanitized build/test_solve-sanitized: build/%-sanitized: host/%.c include/ormsvelg.h tools/x86 $(LIBRARY)
+build/test-sanitized build/test_solve-sanitized build/test_widen-sanitized: build/%-sanitized: host/%.c host/lent.h include/ormsvelg.h tools/x86 $(LIBRARY)
 	@mkdir -p build
 	$(HOST) -O0 -g -fsanitize=address,undefined -fno-sanitize-recover=all -o $@ host/$*.c $(LIBRARY)
 
-host-test: build/test build/test_solve
+host-test: build/test build/test_solve build/test_widen
 	tools/x86 run build/test
 	tools/x86 run build/test_solve
+	tools/x86 run build/test_widen
 ifeq ($(shell uname -m),x86_64)
 	$(MAKE) --no-print-directory host-test-sanitized
 else
 	@echo "skipped: sanitizers run on x86-64 alone"
 endif
 
-host-test-sanitized: build/test-sanitized build/test_solve-sanitized
+host-test-sanitized: build/test-sanitized build/test_solve-sanitized build/test_widen-sanitized
 	tools/x86 run build/test-sanitized
 	tools/x86 run build/test_solve-sanitized
+	tools/x86 run build/test_widen-sanitized
 
 build/drive: host/drive.c tools/x86 $(LIBRARY)
 	@mkdir -p build

@@ -43,6 +43,8 @@ static inline const char *reason(uint32_t code)
     case ORMSVELG_OUT_OF_RANGE: return "claim or combination not below its limit";
     case ORMSVELG_NO_STEP: return "the step from this entry does not hold";
     case ORMSVELG_NO_OPPOSITE: return "opposite of the first claim is absent";
+    case ORMSVELG_ASKS_MORE: return "job Q does not ask no more than job P";
+    case ORMSVELG_WALK_GIVEN: return "answer is a walk where tables are needed";
     default: return "a code that is not in use";
     }
 }

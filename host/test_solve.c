@@ -2,48 +2,19 @@
  * Tables are written out by hand from the paper. Several walks may stand, so a walk is judged by the checker and by its
  * length. The lent buffer is filled with a pattern, and every byte that must stay is looked at.
  */
-#include <stdio.h>
-#include <string.h>
-
-#include "ormsvelg.h"
-
-#define ROOM 9000
-
-static unsigned checks, failures;
-static uint8_t answer[ROOM];
-
-static void expect(const char *name, const char *what, uint64_t got, uint64_t wanted)
-{
-    checks++;
-    if (got == wanted)
-        return;
-    failures++;
-    printf("%s: %s is %llu, and should be %llu\n", name, what, (unsigned long long)got, (unsigned long long)wanted);
-}
-
-static uint8_t pattern(size_t place) { return (uint8_t)(place * 7 + 3); }
+#include "lent.h"
 
 static uint64_t solve(const uint8_t *job, size_t length, size_t room)
 {
-    for (size_t place = 0; place < ROOM; place++)
-        answer[place] = pattern(place);
-    return ormsvelg_solve(job, length, answer, room);
-}
-
-/* Every byte from `first` on is as it was. */
-static void stays(const char *name, size_t first)
-{
-    size_t place = first;
-    while (place < ROOM && answer[place] == pattern(place))
-        place++;
-    expect(name, "the first byte changed", place, ROOM);
+    lend();
+    return ormsvelg_solve(job, length, lent, room);
 }
 
 static void gives_tables(const char *name, const uint8_t *job, size_t length, const uint8_t *sheet, size_t wanted)
 {
     uint64_t outcome = solve(job, length, ORMSVELG_LONGEST_ANSWER);
     expect(name, "the outcome", outcome, ORMSVELG_TABLES | (uint64_t)wanted << 40);
-    expect(name, "the sheet's difference", memcmp(answer, sheet, wanted) != 0, 0);
+    expect(name, "the sheet's difference", memcmp(lent, sheet, wanted) != 0, 0);
     stays(name, wanted);
 }
 
@@ -52,7 +23,7 @@ static void gives_walk(const char *name, const uint8_t *job, size_t length, unsi
     uint64_t outcome = solve(job, length, ORMSVELG_LONGEST_ANSWER);
     size_t written = ormsvelg_written(outcome);
     expect(name, "the outcome without its length", outcome & 0xFFFFFFFFFF, ORMSVELG_WALK);
-    expect(name, "the checker's outcome", ormsvelg_check(job, length, answer, written), ORMSVELG_WALK);
+    expect(name, "the checker's outcome", ormsvelg_check(job, length, lent, written), ORMSVELG_WALK);
     expect(name, "more than 4R - 2 entries", written > 6 + 4 * (4 * rows - 2), 0);
     stays(name, written);
 }
@@ -62,8 +33,6 @@ static void refuses(const char *name, const uint8_t *job, size_t length, size_t 
     expect(name, "the outcome", solve(job, length, room), outcome);
     stays(name, 0);
 }
-
-#define SHEET(...) (const uint8_t[]){__VA_ARGS__}, sizeof((uint8_t[]){__VA_ARGS__})
 
 int main(void)
 {
@@ -95,10 +64,5 @@ int main(void)
     refuses("bad job and no room", SHEET(13), 0, ORMSVELG_TOO_MANY | 1 << 8);
     refuses("one byte more", SHEET(0, 0, 0, 0, 0, 0), ROOM, ORMSVELG_LEFT_OVER | 1 << 8 | 5 << 16);
     expect("null buffer", "the outcome", ormsvelg_solve(j1, sizeof j1, NULL, 0), ORMSVELG_NO_ROOM);
-    if (failures) {
-        printf("solver: %u of %u checks failed\n", failures, checks);
-        return 1;
-    }
-    printf("solver: %u checks passed\n", checks);
-    return 0;
+    return verdict("solver");
 }

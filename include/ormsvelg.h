@@ -27,7 +27,7 @@
 
 /* Codes. Successes have sheet and place 0. The place of each refusal stands beside it. */
 #define ORMSVELG_ACCEPTED 0      /* reader: sheet accepted */
-#define ORMSVELG_TABLES 20       /* solver, checker: tables that fit */
+#define ORMSVELG_TABLES 20       /* solver, checker, widener: tables that fit */
 #define ORMSVELG_WALK 21         /* solver, checker: a walk that stands */
 /* Refusals of a job. The first fault on the sheet decides. */
 #define ORMSVELG_ENDS 1          /* job ends where a byte is called for: its length */
@@ -44,6 +44,9 @@
 #define ORMSVELG_OUT_OF_RANGE 11 /* claim not below 2R, or combination not below 2^n: its two bytes' offset */
 #define ORMSVELG_NO_STEP 12      /* a step does not hold: the lowest such entry's number, from 0 */
 #define ORMSVELG_NO_OPPOSITE 13  /* opposite of the first claim is absent: 0 */
+/* Refusals of the widener, with place 0. */
+#define ORMSVELG_ASKS_MORE 14    /* Q does not ask no more than P, sheet 3 */
+#define ORMSVELG_WALK_GIVEN 15   /* answer is a standing walk where tables are needed, sheet 2 */
 
 #ifdef __cplusplus
 extern "C" {
@@ -60,6 +63,12 @@ uint64_t ormsvelg_check(const uint8_t *job, size_t job_len, const uint8_t *answe
  * pair fits. The answer sheet is at the front of `answer`; its length is the bytes written, and bytes beyond it stay.
  * Else a refusal of sheet 1 with one of the codes 1 to 5, or ORMSVELG_NO_ROOM; every byte stays. */
 uint64_t ormsvelg_solve(const uint8_t *job, size_t job_len, uint8_t *answer, size_t answer_len);
+
+/* Widens an answer for job P, tables that fit, to job Q, which asks no more: ORMSVELG_TABLES, with the tables sheet for Q
+ * at the front of `out`; bytes beyond it stay. Else, in this order, P's refusals 1 to 5 (sheet 1), Q's (sheet 3), the
+ * answer's 7 to 13 (sheet 2), 15, 14, ORMSVELG_NO_ROOM; every byte stays. */
+uint64_t ormsvelg_widen(const uint8_t *p, size_t p_len, const uint8_t *q, size_t q_len,
+                        const uint8_t *answer, size_t answer_len, uint8_t *out, size_t out_len);
 
 #ifdef __cplusplus
 }
