@@ -5,11 +5,10 @@
 #define _POSIX_C_SOURCE 199309L
 #include <inttypes.h>
 #include <stdio.h>
-#include <stdlib.h>
-#include <time.h>
 
 #include "ormsvelg.h"
 #include "read.h"
+#include "timing.h"
 
 #define ROUNDS 21
 #define ROUND_NANOSECONDS 5e6
@@ -24,13 +23,6 @@ static uint64_t read_plain(const uint8_t *sheet, size_t length)
     return plain_read(sheet, length, &job);
 }
 
-static double now(void)
-{
-    struct timespec time;
-    clock_gettime(CLOCK_MONOTONIC, &time);
-    return (double)time.tv_sec * 1e9 + (double)time.tv_nsec;
-}
-
 /* Nanoseconds of one call, as the mean of many. */
 static double time_round(reader *read, const uint8_t *sheet, size_t length, unsigned calls)
 {
@@ -41,18 +33,6 @@ static double time_round(reader *read, const uint8_t *sheet, size_t length, unsi
     double took = now() - began;
     sink = sum;
     return took / calls;
-}
-
-static int by_size(const void *a, const void *b)
-{
-    double x = *(const double *)a, y = *(const double *)b;
-    return (x > y) - (x < y);
-}
-
-static double median(double *rounds)
-{
-    qsort(rounds, ROUNDS, sizeof *rounds, by_size);
-    return rounds[ROUNDS / 2];
 }
 
 static int same_outcome(const char *name, const uint8_t *sheet, size_t length)
@@ -74,7 +54,7 @@ static int compare(const char *name, const uint8_t *sheet, size_t length)
         ours[round] = time_round(ormsvelg_read, sheet, length, calls);
         plain[round] = time_round(read_plain, sheet, length, calls);
     }
-    double library = median(ours), c = median(plain);
+    double library = median(ours, ROUNDS), c = median(plain, ROUNDS);
     printf("read, %s, %zu bytes: library %.1f ns, plain C %.1f ns, ratio %.2f\n", name, length, library, c, library / c);
     return 0;
 }
