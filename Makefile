@@ -3,13 +3,15 @@
 #   make read JOB=FILE              what the reader says of a job sheet, in words
 #   make host-test                  the C tests over the static library
 #   make compare SEED=1 COUNT=200000  random cases against the independent second program
-#   make speed                      the library's times against plain C's, native
+#   make speed                      the library's times against plain C's and C++'s, native; wants g++
 
 SEED ?= 1
 COUNT ?= 200000
 
 LIBRARY = target/staticlib/libormsvelg.a
 C = -std=c11 -Wall -Wextra -Werror
+# Loops are aligned, so that no time hangs on where the linker happens to put a short one.
+CXXFLAGS = -std=c++17 -Wall -Wextra -Werror -O3 -falign-functions=64 -falign-loops=64
 HOST = tools/x86 cc $(C) -O2 -Iinclude
 PROVED = crates.txt $(shell find crates -name '*.rt' -o -name '*.antt')
 
@@ -62,12 +64,23 @@ compare: build/drive build/second/compare
 build/native/libormsvelg.a: $(PROVED) tools/native-archive
 	tools/native-archive ormsvelg $@
 
-build/native/speed: speed/main.c speed/read.c speed/read.h include/ormsvelg.h build/native/libormsvelg.a
-	cc $(C) -O3 -c -o build/native/read.o speed/read.c
+build/native/read.o: speed/read.c speed/read.h
+	@mkdir -p build/native
+	cc $(C) -O3 -c -o $@ speed/read.c
+
+build/native/speed-read: speed/main.c speed/read.h speed/timing.h include/ormsvelg.h build/native/read.o build/native/libormsvelg.a
 	cc $(C) -O3 -Iinclude -o $@ speed/main.c build/native/read.o build/native/libormsvelg.a
 
-speed: build/native/speed
-	build/native/speed
+build/native/%.o: speed/%.cpp $(wildcard speed/*.h)
+	@mkdir -p build/native
+	g++ $(CXXFLAGS) -c -o $@ $<
+
+build/native/speed-solve: $(patsubst speed/%.cpp,build/native/%.o,$(wildcard speed/*.cpp)) build/native/read.o build/native/libormsvelg.a
+	g++ -o $@ $^
+
+speed: build/native/speed-read build/native/speed-solve
+	build/native/speed-read
+	build/native/speed-solve
 
 clean:
 	rm -rf build target

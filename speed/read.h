@@ -6,6 +6,10 @@
 #include <stddef.h>
 #include <stdint.h>
 
+#ifdef __cplusplus
+extern "C" {
+#endif
+
 /* What a job sheet says. A set is a mask: position p or term t has the bit 1 << p or 1 << t. */
 struct job {
     unsigned wires, rule_count;
@@ -16,5 +20,9 @@ struct job {
 
 /* Reads a sheet into job and gives the outcome number of the library's reader. */
 uint64_t plain_read(const uint8_t *sheet, size_t length, struct job *job);
+
+#ifdef __cplusplus
+}
+#endif
 
 #endif
