@@ -6,6 +6,10 @@
 #include <stddef.h>
 #include <stdint.h>
 
+#ifdef __cplusplus
+extern "C" {
+#endif
+
 /* What a job sheet says. A set is a mask: position p or term t has the bit 1 << p or 1 << t. */
 struct job {
     unsigned wires, rule_count;
@@ -23,6 +27,10 @@ uint64_t plain_read(const uint8_t *sheet, size_t length);
 
 /* The same, and hands the job over. */
 uint64_t plain_read_job(const uint8_t *sheet, size_t length, struct job *job);
+
+#ifdef __cplusplus
+}
+#endif
 
 #ifdef __cplusplus
 }
