@@ -18,19 +18,11 @@ struct job {
     uint32_t rules[256];
 };
 
-#ifdef __cplusplus
-extern "C" {
-#endif
-
 /* Reads a sheet and gives the outcome number of the library's reader. */
 uint64_t plain_read(const uint8_t *sheet, size_t length);
 
 /* The same, and hands the job over. */
 uint64_t plain_read_job(const uint8_t *sheet, size_t length, struct job *job);
-
-#ifdef __cplusplus
-}
-#endif
 
 #ifdef __cplusplus
 }

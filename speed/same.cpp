@@ -200,7 +200,7 @@ uint64_t same_solve(const uint8_t *sheet, size_t sheet_len, uint8_t *answer, siz
 {
     job read;
     board filled;
-    uint64_t outcome = plain_read(sheet, sheet_len, &read);
+    uint64_t outcome = plain_read_job(sheet, sheet_len, &read);
     if (outcome != 0)
         return outcome;
     if (answer_len < LONGEST_ANSWER)

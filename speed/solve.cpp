@@ -10,9 +10,8 @@
 
 #include "families.h"
 #include "judge.h"
+#include "ormsvelg.h"
 #include "timing.h"
-
-extern "C" solver ormsvelg_solve;
 
 namespace {
 
