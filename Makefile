@@ -13,6 +13,8 @@ COUNT ?=
 
 LIBRARY = target/staticlib/libormsvelg.a
 C = -std=c11 -Wall -Wextra -Werror
+# Loops are aligned, so that no time hangs on where the linker happens to put a short one.
+CXXFLAGS = -std=c++20 -Wall -Wextra -Werror -O3 -falign-functions=64 -falign-loops=64
 HOST = tools/x86 cc $(C) -O2 -Iinclude
 PROVED = crates.txt $(shell find crates -name '*.rt' -o -name '*.antt')
 
@@ -81,15 +83,19 @@ build/native/%.o: speed/%.c $(wildcard speed/*.h) include/ormsvelg.h
 	@mkdir -p build/native
 	cc $(C) -O3 -Iinclude -c -o $@ $<
 
-build/native/check.o: speed/check.cpp $(wildcard speed/*.h)
+build/native/%.o: speed/%.cpp $(wildcard speed/*.h)
 	@mkdir -p build/native
-	g++ -std=c++20 -Wall -Wextra -Werror -O3 -c -o $@ $<
+	g++ $(CXXFLAGS) -Iinclude -c -o $@ $<
 
-build/native/speed: $(addprefix build/native/,main.o sheets.o read.o check.o libormsvelg.a)
+build/native/speed-read: $(addprefix build/native/,main.o sheets.o read.o check.o libormsvelg.a)
 	g++ -o $@ $^
 
-speed: build/native/speed
-	build/native/speed
+build/native/speed-solve: $(addprefix build/native/,solve.o same.o best.o families.o judge.o read.o libormsvelg.a)
+	g++ -o $@ $^
+
+speed: build/native/speed-read build/native/speed-solve
+	build/native/speed-read
+	build/native/speed-solve
 
 clean:
 	rm -rf build target

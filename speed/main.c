@@ -7,12 +7,12 @@
 #include <inttypes.h>
 #include <stdio.h>
 #include <stdlib.h>
-#include <time.h>
 
 #include "check.h"
 #include "ormsvelg.h"
 #include "read.h"
 #include "sheets.h"
+#include "timing.h"
 
 #define ROUNDS 51
 #define ROUND_NANOSECONDS 2e6
@@ -57,13 +57,6 @@ static const struct pair readers = {library_reads, plain_reads, "plain C"};
 static const struct pair checkers = {library_checks, plain_checks, "plain C++"};
 static volatile uint64_t sink;
 
-static double now(void)
-{
-    struct timespec time;
-    clock_gettime(CLOCK_PROCESS_CPUTIME_ID, &time);
-    return (double)time.tv_sec * 1e9 + (double)time.tv_nsec;
-}
-
 /* Nanoseconds of one call, as the mean of many. */
 static double time_round(call *called, const struct lent *lent, unsigned calls)
 {
@@ -74,18 +67,6 @@ static double time_round(call *called, const struct lent *lent, unsigned calls)
     double took = now() - began;
     sink = sum;
     return took / calls;
-}
-
-static int by_size(const void *a, const void *b)
-{
-    double x = *(const double *)a, y = *(const double *)b;
-    return (x > y) - (x < y);
-}
-
-static double median(double *rounds)
-{
-    qsort(rounds, ROUNDS, sizeof *rounds, by_size);
-    return rounds[ROUNDS / 2];
 }
 
 static void same_outcome(const char *name, const struct pair *pair, const struct lent *lent, uint32_t code)
@@ -106,7 +87,7 @@ static void compare(const char *name, const struct pair *pair, const struct lent
         library[round] = time_round(pair->library, lent, calls);
         plain[round] = time_round(pair->plain, lent, calls);
     }
-    double ours = median(library), theirs = median(plain);
+    double ours = median(library, ROUNDS), theirs = median(plain, ROUNDS);
     printf("%s: library %.1f ns, %s %.1f ns, ratio %.2f\n", name, ours, pair->language, theirs, ours / theirs);
 }
 

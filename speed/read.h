@@ -6,6 +6,10 @@
 #include <stddef.h>
 #include <stdint.h>
 
+#ifdef __cplusplus
+extern "C" {
+#endif
+
 /* What a job sheet says. A set is a mask: position p or term t has the bit 1 << p or 1 << t. */
 struct job {
     unsigned wires, rule_count;
@@ -13,10 +17,6 @@ struct job {
     uint32_t seen[2];
     uint32_t rules[256];
 };
-
-#ifdef __cplusplus
-extern "C" {
-#endif
 
 /* Reads a sheet and gives the outcome number of the library's reader. */
 uint64_t plain_read(const uint8_t *sheet, size_t length);

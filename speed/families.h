@@ -1,0 +1,19 @@
+/* speed/families.h: the jobs that the solvers are timed on, in families, made from a fixed seed.
+ * The same jobs come out on every machine and in every run.
+ */
+#ifndef SPEED_FAMILIES_H
+#define SPEED_FAMILIES_H
+
+#include <stdint.h>
+
+#include <string>
+#include <vector>
+
+struct family {
+    std::string name;
+    std::vector<std::vector<uint8_t>> sheets;
+};
+
+std::vector<family> families();
+
+#endif
