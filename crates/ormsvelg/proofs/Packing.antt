@@ -42,7 +42,7 @@ use Rattle.solver.specs.Solved.{tables as tabled, walk as walked}
 use Rattle.widener.specs.Asks.{asksb}
 use Rattle.widener.specs.Table.{narrowRow, widenTable, widenSheet}
 use Rattle.widener.specs.Widened.{Ending, refusing, writing, fitting, judged, withP, withNone, widened}
-use Rattle.widener.proofs.Demand.{tabled-length}
+use Rattle.widener.proofs.Tabling.{tabled-length}
 use Rattle.ormsvelg.specs.Packed.{pack, unpack, Packs}
 
 module _ (c s p w : ℕ) (hc : c < 2 ^ 8) (hs : s < 2 ^ 8) (hp : p < 2 ^ 24) where

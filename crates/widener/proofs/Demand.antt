@@ -12,7 +12,7 @@ use mathlib.Core.Bool.{Bool, true}
 use mathlib.Core.List.{List, [], _∷_, _++_}
 use mathlib.Core.Logic.{_↔_}
 use Prim.Native.Nat.{ℕ, zero, suc, _+_, _*_, _^_, _<_, _≤_}
-use native.Mathlib.Nat.{add-zero, zero-add, not-suc-le-zero}
+use native.Mathlib.Nat.{zero-add}
 use native.Mathlib.Omega.{arith}
 use lib.Bits.{bitAnd}
 use lib.Count.{ones}
@@ -44,21 +44,7 @@ use Rattle.solver.proofs.Demand.{tables-iff, walk-stands}
 use Rattle.widener.specs.Asks.{Contains, AsksNoMore, containsb}
 use Rattle.widener.specs.Table.{narrowRow, tabled, widenTable, widenSheet}
 use Rattle.widener.proofs.Asking.{contains-iff}
-
--- ---- a list by its rule
-
-pub tabled-length : (f : ℕ → ℕ) (i k : ℕ) → length (tabled f i k) ≡ k
-unfolding tabled
-tabled-length f i zero = refl
-tabled-length f i (suc k) = ap suc (tabled-length f (i + 1) k)
-
-pub tabled-at : (f : ℕ → ℕ) (i k r : ℕ) → r < k → getD (tabled f i k) r 0 ≡ f (i + r)
-unfolding tabled
-tabled-at f i zero r h = absurd (not-suc-le-zero h)
-tabled-at f i (suc k) zero h = ap f (sym (add-zero i))
-tabled-at f i (suc k) (suc r) h =
-    let e : i + 1 + r ≡ i + suc r = omega arith in
-    tabled-at f (i + 1) k r (omega arith) ∙ ap f e
+use Rattle.widener.proofs.Tabling.{tabled-length, tabled-at}
 
 -- ---- boards
 
@@ -140,12 +126,12 @@ module _ (p q : List ℕ) (P Q : Job) (isP : readJob p ≡ accepted P) (isQ : re
     wide-rows = record {
       long = length-append wideA wideB ∙ omega (arith, long-a, long-b);
       ofA = λ r h.
-        let l : r < length wideA = omega (arith, long-a) in
-        let m : narrowA r < length xs = omega (arith, pair .longA, asks-board .inA r h) in
-        List·getD-append wideA wideB 0 r l ∙ at-a r h ∙ sym (List·getD-append xs ys 0 (narrowA r) m);
+          let l : r < length wideA = omega (arith, long-a) in
+          let m : narrowA r < length xs = omega (arith, pair .longA, asks-board .inA r h) in
+          List·getD-append wideA wideB 0 r l ∙ at-a r h ∙ sym (List·getD-append xs ys 0 (narrowA r) m);
       ofB = λ r h.
-        ap (λ (k : ℕ). getD (wideA ++ wideB) (k + r) 0) (sym long-a) ∙ getD-append-add wideA wideB r 0 ∙ at-b r h
-            ∙ sym (getD-append-add xs ys (narrowB r) 0) ∙ ap (λ (k : ℕ). getD (xs ++ ys) (k + narrowB r) 0) (pair .longA);
+          ap (λ (k : ℕ). getD (wideA ++ wideB) (k + r) 0) (sym long-a) ∙ getD-append-add wideA wideB r 0 ∙ at-b r h
+          ∙ sym (getD-append-add xs ys (narrowB r) 0) ∙ ap (λ (k : ℕ). getD (xs ++ ys) (k + narrowB r) 0) (pair .longA);
     }
 
     -- at each combination the widened tables hold what P's tables hold there

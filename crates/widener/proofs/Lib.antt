@@ -1,4 +1,7 @@
 pub mod Within
 pub mod Asking
 pub mod Asked
+pub mod Tabling
+pub mod Writing
+pub mod Ends
 pub mod Demand

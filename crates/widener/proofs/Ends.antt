@@ -1,0 +1,238 @@
+-- How a widener call ends, each way from plain facts.
+--     taken-as                              from what the reader of jobs told and stored
+--     refused-first, refused-second         a job sheet is refused
+--     ends-walk, ends-checked               the answer is a walk that stands, or is refused by the checker
+--     wide-asks                             what `write_wide` asks is there
+--     ends-asks, ends-room, ends-written    tables that fit: Q asks more, no room, and the widened sheet
+-- Assumes nothing.
+use mathlib.Core.Path.{_≡_, refl, sym, ap, ap₂, _∙_}
+use mathlib.Core.Bool.{Bool, true, false, not, _&&_, false≢true}
+use mathlib.Core.List.{List, [], _∷_, _++_}
+use Prim.Native.Nat.{ℕ, suc, _^_, _<_, _≤_}
+use native.Mathlib.Omega.{arith}
+use borrow.Author.Tests.{lt-ltb, le-ltb, eq-eqb, ne-eqb}
+use lib.Count.{ones}
+use lib.Dec.{ltb, eqb}
+use lib.ListN.{length, drop}
+use Rattle.wires.specs.Wires.{placed}
+use Rattle.wires.proofs.Rows.{row-below}
+use Rattle.steps.specs.declared.Outcome.{Outcome}
+use Rattle.steps.specs.declared.Refusal.{Refusal}
+use Rattle.steps.specs.declared.Refusal.the-variants.{Ends, TooMany, NotRising, TooHigh, LeftOver, OtherKind, NotABit, OutOfRange}
+use Rattle.steps.specs.Step.{pick}
+use Rattle.steps.specs.Outcome.{success, refusal, refusedJob, answerCodeOf}
+use Rattle.sheet.specs.declared.JobHead.{JobHead}
+use Rattle.sheet.specs.Job.{Job, accepted, rejected}
+use Rattle.sheet.specs.JobSheet.{readJob}
+use Rattle.answer.specs.Answer.{Entry, tables, walk, AnswerVerdict, answered}
+use Rattle.answer.specs.Answer.{rejected as unanswered}
+use Rattle.answer.specs.AnswerSheet.{readAnswer, longest}
+use Rattle.answer.specs.Written.{tablesSheet}
+use Rattle.answer.proofs.There.{tables-there}
+use Rattle.board.specs.Board.{Board, opposite}
+use Rattle.board.specs.Walk.{entry}
+use Rattle.board.specs.Tests.{amongb}
+use Rattle.board.specs.JobBoard.{boardOf, jobBoard, headBoard}
+use Rattle.board.specs.Check.{lowest, stepAt, judgeTables, judgeWalk, judge, judgeSheet}
+use Rattle.board.specs.Places.{TablesIn}
+use Rattle.board.proofs.Accepting.{Taken}
+use Rattle.board.proofs.Judging.{tables-in}
+use Rattle.widener.specs.Asks.{samePins, asksb}
+use Rattle.widener.specs.Table.{narrowRow, widenTable, widenSheet}
+use Rattle.widener.specs.Taking.{headOf, TakenAs, IsTaken, Wide, Widely, sheetFrom, Ended}
+use Rattle.widener.specs.Widened.{Ending, refusing, fitting, judged, withBoth, widened}
+use Rattle.widener.proofs.Tabling.{tabled-same}
+
+-- ---- jobs
+
+pub taken-as : {s : List ℕ} {h : JobHead} {rules : List ℕ} → Taken s h rules → IsTaken s h rules
+taken-as t = (t .job, record { is = t .is; head = t .head; sized = t .sized; rules-are = t .rules-are })
+
+ended-as : {e : Ending} {o : Outcome} {exit : List ℕ} (p q s entry : List ℕ) → widened p q s entry ≡ e → o ≡ e .outcome → exit ≡ e .exit
+    → Ended (widened p q s entry) o exit
+ended-as p q s entry e eo ex = record { outcome = eo ∙ ap (λ (x : Ending). x .outcome) (sym e); exit-is = ex ∙ ap (λ (x : Ending). x .exit) (sym e) }
+
+first-is : (p q s entry : List ℕ) (w : Refusal) → readJob p ≡ rejected w → widened p q s entry ≡ refusing (refusedJob 1 w) entry
+unfolding widened
+first-is p q s entry w e = rw e
+
+second-is : (p q s entry : List ℕ) (P : Job) (w : Refusal) → readJob p ≡ accepted P → readJob q ≡ rejected w
+    → widened p q s entry ≡ refusing (refusedJob 3 w) entry
+unfolding widened
+second-is p q s entry P w e f = rw (e, f)
+
+both-is : (p q s entry : List ℕ) (P Q : Job) → readJob p ≡ accepted P → readJob q ≡ accepted Q → widened p q s entry ≡ withBoth P Q s entry
+unfolding widened
+both-is p q s entry P Q e f = rw (e, f)
+
+pub refused-first : (p q s entry : List ℕ) (w : Refusal) {o : Outcome} → readJob p ≡ rejected w → o ≡ refusedJob 1 w
+    → Ended (widened p q s entry) o entry
+refused-first p q s entry w e eo = ended-as p q s entry (first-is p q s entry w e) eo refl
+
+pub refused-second : (p q s entry : List ℕ) (hp : JobHead) (rules : List ℕ) (w : Refusal) {o : Outcome} → IsTaken p hp rules → readJob q ≡ rejected w
+    → o ≡ refusedJob 3 w → Ended (widened p q s entry) o entry
+refused-second p q s entry hp rules w t e eo = ended-as p q s entry (second-is p q s entry (t .0) w (t .1 .is) e) eo refl
+
+-- ---- the checker's codes
+
+module _ (B : Board) where
+  tables-not-21 : (T : List ℕ) → judgeTables B T .code ≡ 21 → ⊥
+  unfolding judgeTables
+  tables-not-21 T e = go (ltb _ (B .combinations)) _ e
+    where
+      go : (b : Bool) (m : ℕ) → pick b (refusal 10 2 m) (success 20 0) .code ≡ 21 → ⊥
+      go true m z = omega arith
+      go false m z = omega arith
+
+  walk-not-20 : (es : List Entry) → judgeWalk B es .code ≡ 20 → ⊥
+  unfolding judgeWalk
+  walk-not-20 es e = go (ltb (lowest (λ i. not (stepAt B es i)) (length es)) (length es)) (amongb (opposite (entry es 0 .says)) es) _ e
+    where
+      go : (b c : Bool) (m : ℕ) → pick b (refusal 12 2 m) (pick c (success 21 0) (refusal 13 2 0)) .code ≡ 20 → ⊥
+      go true c m z = omega arith
+      go false true m z = omega arith
+      go false false m z = omega arith
+
+answer-code : (w : Refusal) → answerCodeOf w < 20
+answer-code (Ends place) = omega arith
+answer-code (TooMany place) = omega arith
+answer-code (NotRising place) = omega arith
+answer-code (TooHigh place) = omega arith
+answer-code (LeftOver place) = omega arith
+answer-code (OtherKind place) = omega arith
+answer-code (NotABit place) = omega arith
+answer-code (OutOfRange place) = omega arith
+
+-- ---- the answer against P, whatever it was read as
+
+module _ (P Q : Job) (l : List ℕ) where
+  judged-walk : (v : AnswerVerdict) → judge (jobBoard P) v .code ≡ 21 → judged P Q v l ≡ refusing (refusal 15 2 0) l
+  judged-walk (answered (tables xs ys)) e = absurd (tables-not-21 (jobBoard P) (xs ++ ys) e)
+  judged-walk (answered (walk es)) e = rw (eq-eqb (judgeWalk (jobBoard P) es .code) 21 e)
+  judged-walk (unanswered w) e = let no : ⊥ = omega (arith, answer-code w) in absurd no
+
+  judged-refused : (v : AnswerVerdict) → (judge (jobBoard P) v .code ≡ 21 → ⊥) → (judge (jobBoard P) v .code ≡ 20 → ⊥)
+      → judged P Q v l ≡ refusing (judge (jobBoard P) v) l
+  judged-refused (answered (tables xs ys)) d e = rw (ne-eqb (judgeTables (jobBoard P) (xs ++ ys) .code) 20 e)
+  judged-refused (answered (walk es)) d e = rw (ne-eqb (judgeWalk (jobBoard P) es .code) 21 d)
+  judged-refused (unanswered w) d e = refl
+
+  judged-tables : (v : AnswerVerdict) → judge (jobBoard P) v .code ≡ 20
+      → (xs : List ℕ) × (ys : List ℕ) × (v ≡ answered (tables xs ys)) × (judged P Q v l ≡ fitting P Q xs ys l)
+  judged-tables (answered (tables xs ys)) e = (xs, ys, refl, rw (eq-eqb (judgeTables (jobBoard P) (xs ++ ys) .code) 20 e))
+  judged-tables (answered (walk es)) e = absurd (walk-not-20 (jobBoard P) es e)
+  judged-tables (unanswered w) e = let no : ⊥ = omega (arith, answer-code w) in absurd no
+
+-- ---- both jobs were taken
+
+and-left : (a b : Bool) → a && b ≡ true → a ≡ true
+and-left true b e = refl
+and-left false b e = e
+
+and-right : (a b : Bool) → a && b ≡ true → b ≡ true
+and-right true b e = e
+and-right false b e = absurd (false≢true e)
+
+-- equal pins are equally many
+same-count : (xs ys : List ℕ) → samePins xs ys ≡ true → length xs ≡ length ys
+unfolding samePins
+same-count [] [] e = refl
+same-count [] (y ∷ ys) e = absurd (false≢true e)
+same-count (x ∷ xs) [] e = absurd (false≢true e)
+same-count (x ∷ xs) (y ∷ ys) e = ap suc (same-count xs ys (and-right (eqb x y) (samePins xs ys) e))
+
+asks-count : (P Q : Job) → asksb P Q ≡ true → length (P .pins) ≡ length (Q .pins)
+unfolding asksb
+asks-count P Q e = same-count (P .pins) (Q .pins) (and-left (samePins (P .pins) (Q .pins)) _ e)
+
+-- the rows stand in the sheet that was read, so what is written from there is the widened sheet
+sheet-same : (n : ℕ) (P Q : Job) (cs : ℕ) (s xs ys : List ℕ) → readAnswer (2 ^ ones (P .seesA)) (2 ^ ones (P .seesB)) cs s ≡ answered (tables xs ys)
+    → sheetFrom n (headOf P) (headOf Q) s ≡ tablesSheet (widenTable n (P .seesA) (Q .seesA) xs) (widenTable n (P .seesB) (Q .seesB) ys)
+sheet-same n P Q cs s xs ys e =
+    let t = tables-there _ _ cs s xs ys e in
+    ap₂ tablesSheet
+    (tabled-same _ _ 0 (2 ^ ones (Q .seesA)) (λ r l. t .atA (narrowRow n (P .seesA) (Q .seesA) r) (row-below n (P .seesA) (placed n (Q .seesA) r))))
+    (tabled-same _ _ 0 (2 ^ ones (Q .seesB)) (λ r l. t .atB (narrowRow n (P .seesB) (Q .seesB) r) (row-below n (P .seesB) (placed n (Q .seesB) r))))
+
+module _ (p q s l : List ℕ) (hp hq : JobHead) (rp rq : List ℕ) (P Q : Job) (tp : TakenAs p hp rp P) (tq : TakenAs q hq rq Q) where
+  abbrev verdict : AnswerVerdict
+  verdict = readAnswer (jobBoard P .rowsA) (jobBoard P .rowsB) (jobBoard P .combinations) s
+
+  board-is : headBoard hp rp ≡ jobBoard P
+  board-is = ap₂ (λ (h : JobHead) (rules : List ℕ). boardOf (h .wires) (h .«sees_a») (h .«sees_b») rules) (tp .head) (tp .rules-are)
+
+  is : widened p q s l ≡ judged P Q verdict l
+  is = both-is p q s l P Q (tp .is) (tq .is)
+
+  -- o is what the checker told
+  module _ {o : Outcome} (told : o ≡ judgeSheet (headBoard hp rp) s) where
+    told-is : o ≡ judge (jobBoard P) verdict
+    unfolding judgeSheet
+    told-is = told ∙ ap (λ (B : Board). judgeSheet B s) board-is
+
+    code-is : o .code ≡ judge (jobBoard P) verdict .code
+    code-is = ap (λ (x : Outcome). x .code) told-is
+
+    pub ends-walk : {r : Outcome} → o .code ≡ 21 → r ≡ refusal 15 2 0 → Ended (widened p q s l) r l
+    ends-walk c e = ended-as p q s l (is ∙ judged-walk P Q l verdict (sym code-is ∙ c)) e refl
+
+    pub ends-checked : (o .code ≡ 21 → ⊥) → (o .code ≡ 20 → ⊥) → Ended (widened p q s l) o l
+    ends-checked c d = ended-as p q s l (is ∙ judged-refused P Q l verdict (λ z. c (code-is ∙ z)) (λ z. d (code-is ∙ z))) told-is refl
+
+    module _ (fits : o .code ≡ 20) where
+      found : (xs : List ℕ) × (ys : List ℕ) × (verdict ≡ answered (tables xs ys)) × (judged P Q verdict l ≡ fitting P Q xs ys l)
+      found = judged-tables P Q l verdict (sym code-is ∙ fits)
+
+      tables-stand : TablesIn hp s
+      tables-stand =
+          tables-in hp rp s (found .0) (found .1)
+          (ap (λ (h : JobHead). readAnswer (2 ^ ones (h .«sees_a»)) (2 ^ ones (h .«sees_b»)) (2 ^ h .wires) s) (tp .head) ∙ found .2)
+
+      pub wide-asks : longest ≤ length l → Wide hp hq s l
+      wide-asks room = record {
+        seesA = tp .sized .seesA;
+        seesB = tp .sized .seesB;
+        wideA = tq .sized .seesA;
+        wideB = tq .sized .seesB;
+        tables = tables-stand;
+        room = room;
+      }
+
+      pub ends-asks : {r : Outcome} → asksb P Q ≡ false → r ≡ refusal 14 3 0 → Ended (widened p q s l) r l
+      ends-asks asks e = ended-as p q s l (is ∙ found .3 ∙ rw asks) e refl
+
+      pub ends-room : {r : Outcome} → asksb P Q ≡ true → length l < longest → r ≡ refusal 6 0 0 → Ended (widened p q s l) r l
+      ends-room asks short e = ended-as p q s l (is ∙ found .3 ∙ rw (asks, lt-ltb (length l) longest short)) e refl
+
+      -- m bytes were written
+      module _ {m : ℕ} {exit : List ℕ} (no-more : asksb P Q ≡ true) (wide : Widely hp hq s l exit m) where
+        abbrev n : ℕ
+        n = length (Q .pins)
+
+        abbrev sheet : List ℕ
+        sheet = widenSheet P Q (found .0) (found .1)
+
+        sheet-is : sheetFrom n hp hq s ≡ sheet
+        sheet-is = ap₂ (λ (x y : JobHead). sheetFrom n x y s) (tp .head) (tq .head) ∙ sheet-same n P Q (2 ^ length (P .pins)) s (found .0) (found .1) (found .2)
+
+        wires-p : hp .wires ≡ n
+        wires-p = ap (λ (h : JobHead). h .wires) (tp .head) ∙ asks-count P Q no-more
+
+        wires-q : hq .wires ≡ n
+        wires-q = ap (λ (h : JobHead). h .wires) (tq .head)
+
+        length-is : m ≡ length sheet
+        length-is = wide .long n ∙ ap length sheet-is
+
+        exit-is : exit ≡ sheet ++ drop (length sheet) l
+        exit-is =
+            wide .wrote n
+            (rw wires-p at (tp .sized .maskA))
+            (rw wires-p at (tp .sized .maskB))
+            (rw wires-q at (tq .sized .maskA))
+            (rw wires-q at (tq .sized .maskB))
+            ∙ ap₂ (λ (xs : List ℕ) (k : ℕ). xs ++ drop k l) sheet-is length-is
+
+        pub ends-written : {r : Outcome} → longest ≤ length l → r ≡ success 20 m → Ended (widened p q s l) r exit
+        ends-written room e =
+            ended-as p q s l (is ∙ found .3 ∙ rw (no-more, le-ltb (length l) longest room)) (e ∙ ap (success 20) length-is) exit-is
