@@ -16,25 +16,21 @@ use Rattle.sheet.specs.declared.JobRead.{JobRead}
 use Rattle.sheet.specs.declared.JobRead.the-variants.{Accepted}
 use Rattle.sheet.specs.Job.{Job, Verdict, accepted, rejected}
 use Rattle.sheet.specs.JobSheet.{readJob}
-use Rattle.sheet.specs.JobFound.{asJob, keptRules}
+use Rattle.sheet.specs.JobFound.{jobHead, asJob, keptRules}
 use Rattle.sheet.proofs.Laws.{rules-front, job-bounds, seen-bounds}
 use Rattle.board.specs.Board.{Board}
 use Rattle.board.specs.Check.{judgeSheet, checkOutcome}
 use Rattle.board.specs.JobBoard.{boardOf, jobBoard, headBoard, Sized}
-
--- the job in numbers
-abbrev pub headOf : Job → JobHead
-headOf j = record { wires = length (j .pins); «sees_a» = j .seesA; «sees_b» = j .seesB; rules = length (j .rules); «pins_at» = 1 }
 
 pub record Taken (s : List ℕ) (h : JobHead) (rules : List ℕ) : Type 0 where
   pub job : Job
   pub is : readJob s ≡ accepted job
   pub sized : Sized h rules
   pub board : headBoard h rules ≡ jobBoard job
-  pub head : h ≡ headOf job
+  pub head : h ≡ jobHead job
   pub rules-are : take (h .rules) rules ≡ job .rules
 
-accepted-is : (v : Verdict) (h : JobHead) → Accepted h ≡ asJob v → (j : Job) × (v ≡ accepted j) × (h ≡ headOf j)
+accepted-is : (v : Verdict) (h : JobHead) → Accepted h ≡ asJob v → (j : Job) × (v ≡ accepted j) × (h ≡ jobHead j)
 accepted-is (accepted j) h e = (j, refl, cc)
 accepted-is (rejected w) h e = let z : _≡_ {A = ℕ} 0 1 = cc in let no : ⊥ = omega arith in absurd no
 
@@ -42,7 +38,7 @@ module _ (s : List ℕ) (old : List ℕ) (room : length old ≡ 256) where
   pub stored-length : length (sets old 0 (keptRules s)) ≡ 256
   stored-length = length-sets old 0 (keptRules s) ∙ room
 
-  head-taken : (j : Job) → readJob s ≡ accepted j → Taken s (headOf j) (sets old 0 (keptRules s))
+  head-taken : (j : Job) → readJob s ≡ accepted j → Taken s (jobHead j) (sets old 0 (keptRules s))
   head-taken j is =
       let b = job-bounds s j is in
       let m = seen-bounds s j is in

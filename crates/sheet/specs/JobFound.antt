@@ -12,7 +12,7 @@ use Rattle.sheet.specs.declared.HeadRead.the-variants as headRead
 use Rattle.sheet.specs.declared.JobRead.{JobRead}
 use Rattle.sheet.specs.declared.JobRead.the-variants as jobRead
 use Rattle.steps.specs.Step.{Step, got, refused, Reading, _>>=_, give}
-use Rattle.sheet.specs.Job.{Head, Verdict, accepted, rejected}
+use Rattle.sheet.specs.Job.{Job, Head, Verdict, accepted, rejected}
 use Rattle.steps.specs.Bytes.{entries}
 use Rattle.sheet.specs.JobSheet.{countedMask, rules, head, termsOf, pinLimit}
 
@@ -40,10 +40,12 @@ abbrev pub asHead : Step Head → HeadRead
 asHead (got h at) = headRead.Got (headOf h) at
 asHead (refused w) = headRead.Refused w
 
+-- a job in numbers
+abbrev pub jobHead : Job → JobHead
+jobHead j = record { wires = length (j .pins); «sees_a» = j .seesA; «sees_b» = j .seesB; rules = length (j .rules); «pins_at» = 1 }
+
 abbrev pub asJob : Verdict → JobRead
-asJob (accepted j) =
-    jobRead.Accepted
-    (record { wires = length (j .pins); «sees_a» = j .seesA; «sees_b» = j .seesB; rules = length (j .rules); «pins_at» = 1 })
+asJob (accepted j) = jobRead.Accepted (jobHead j)
 asJob (rejected w) = jobRead.Refused w
 
 abbrev pub consOf : Step ℕ → (ℕ → List ℕ) → List ℕ

@@ -39,7 +39,8 @@ use Rattle.board.proofs.Accepting.{Taken}
 use Rattle.board.proofs.Judging.{tables-in}
 use Rattle.widener.specs.Asks.{samePins, asksb}
 use Rattle.widener.specs.Table.{narrowRow, widenTable, widenSheet}
-use Rattle.widener.specs.Taking.{headOf, TakenAs, IsTaken, Wide, Widely, sheetFrom, Ended}
+use Rattle.sheet.specs.JobFound.{jobHead}
+use Rattle.widener.specs.Taking.{TakenAs, IsTaken, Wide, Widely, sheetFrom, Ended}
 use Rattle.widener.specs.Widened.{Ending, refusing, fitting, judged, withBoth, widened}
 use Rattle.widener.proofs.Tabling.{tabled-same}
 
@@ -147,7 +148,7 @@ asks-count P Q e = same-count (P .pins) (Q .pins) (and-left (samePins (P .pins) 
 
 -- the rows stand in the sheet that was read, so what is written from there is the widened sheet
 sheet-same : (n : ℕ) (P Q : Job) (cs : ℕ) (s xs ys : List ℕ) → readAnswer (2 ^ ones (P .seesA)) (2 ^ ones (P .seesB)) cs s ≡ answered (tables xs ys)
-    → sheetFrom n (headOf P) (headOf Q) s ≡ tablesSheet (widenTable n (P .seesA) (Q .seesA) xs) (widenTable n (P .seesB) (Q .seesB) ys)
+    → sheetFrom n (jobHead P) (jobHead Q) s ≡ tablesSheet (widenTable n (P .seesA) (Q .seesA) xs) (widenTable n (P .seesB) (Q .seesB) ys)
 sheet-same n P Q cs s xs ys e =
     let t = tables-there _ _ cs s xs ys e in
     ap₂ tablesSheet

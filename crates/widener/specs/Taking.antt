@@ -14,6 +14,7 @@ use Rattle.steps.specs.declared.Outcome.{Outcome}
 use Rattle.sheet.specs.declared.JobHead.{JobHead}
 use Rattle.sheet.specs.Job.{Job, accepted}
 use Rattle.sheet.specs.JobSheet.{readJob}
+use Rattle.sheet.specs.JobFound.{jobHead}
 use Rattle.answer.specs.AnswerSheet.{longest}
 use Rattle.answer.specs.Written.{tablesSheet}
 use Rattle.board.specs.JobBoard.{Sized}
@@ -21,13 +22,9 @@ use Rattle.board.specs.Places.{TablesIn}
 use Rattle.widener.specs.Table.{narrowRow, tabled}
 use Rattle.widener.specs.Widened.{Ending}
 
--- the job in numbers
-abbrev pub headOf : Job → JobHead
-headOf j = record { wires = length (j .pins); «sees_a» = j .seesA; «sees_b» = j .seesB; rules = length (j .rules); «pins_at» = 1 }
-
 pub record TakenAs (s : List ℕ) (h : JobHead) (rules : List ℕ) (j : Job) : Type 0 where
   pub is : readJob s ≡ accepted j
-  pub head : h ≡ headOf j
+  pub head : h ≡ jobHead j
   pub sized : Sized h rules
   pub rules-are : take (h .rules) rules ≡ j .rules
 
