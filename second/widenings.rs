@@ -20,7 +20,7 @@ use crate::ties::{chain_job, ring_job};
 use crate::widen::{asks_more, walk_given, widen};
 use crate::wider::{asking_no_more, grown_table, near_miss};
 
-const CASES_EACH: usize = 10;
+const CASES_EACH: usize = 5;
 
 /// EQUAL_AS_WIRES with both cells seeing both wires, and its first two rules alone.
 const EQUAL_WIDENED: &str = "02 04 07 02 00 01 02 00 01 02 00 04 00 02 04 07 04 00 02 05 06";
@@ -200,10 +200,10 @@ impl Plan {
     fn of(random: &mut Random) -> Plan {
         let mut plan = Plan { p: false, q: false, answer: false, asking: false, room: false };
         match random.below(24) {
-            0..=7 => {}
-            8..=12 => plan.asking = true,
-            13 | 14 => plan.room = true,
-            15..=18 => plan.answer = true,
+            0..=6 => {}
+            7..=10 => plan.asking = true,
+            11 | 12 => plan.room = true,
+            13..=18 => plan.answer = true,
             19 => plan.q = true,
             20 => plan.p = true,
             _ => {
@@ -257,7 +257,7 @@ fn answer_sheet(given: &Given, right: &Answer, wrong: bool, random: &mut Random)
         return (right.sheet(), Part::Right);
     }
     let board = &given.board;
-    match random.below(10) {
+    match random.below(14) {
         0..=3 => (spoil(board, right, random).sheet(), Part::Open),
         4 | 5 => {
             let walk = closed_walk(&given.expansion, random).map(Answer::Walk);
