@@ -17,6 +17,8 @@ extern void _exit(int status) __attribute__((noreturn));
 extern outcome ormsvelg_read(const byte *job, size job_len);
 extern outcome ormsvelg_check(const byte *job, size job_len, const byte *answer, size answer_len);
 extern outcome ormsvelg_solve(const byte *job, size job_len, byte *answer, size answer_len);
+extern outcome ormsvelg_widen(const byte *p, size p_len, const byte *q, size q_len, const byte *answer, size answer_len,
+                              byte *out, size out_len);
 
 enum {
     SLICES = 4,           /* the most slices that one call takes */
@@ -205,6 +207,12 @@ static void serve(byte op)
     case 's':
         take_slices(2);
         respond(ormsvelg_solve(bytes_of(0), length_of(0), bytes_of(1), length_of(1)), 2, 1);
+        break;
+    case 'w':
+        take_slices(4);
+        respond(ormsvelg_widen(bytes_of(0), length_of(0), bytes_of(1), length_of(1), bytes_of(2), length_of(2),
+                               bytes_of(3), length_of(3)),
+                4, 1);
         break;
     default:
         fail(BAD_REQUEST, "drive: a request with an unknown op\n");

@@ -24,6 +24,7 @@ pub const CHECKER: Call = Call {
     writes: 0,
     count: USUAL_COUNT,
     codes: &[1, 2, 3, 4, 5, 7, 8, 9, 10, 11, 12, 13, 20, 21],
+    foremost: &[],
     balanced: false,
     named: named_answers,
     make: random_answers,
@@ -85,7 +86,7 @@ fn random_answer(board: &Board, job: &JobSheet, expansion: &Expansion, random: &
     let accepted = Some(Outcome::success(code));
     match random.below(16) {
         0..=3 => case(job.bytes.clone(), right.sheet(), accepted),
-        4 | 5 => closed_walk(job, expansion, random).unwrap_or(case(job.bytes.clone(), right.sheet(), accepted)),
+        4 | 5 => closed_case(job, expansion, random).unwrap_or(case(job.bytes.clone(), right.sheet(), accepted)),
         6..=8 => case(job.bytes.clone(), spoil(board, &right, random).sheet(), None),
         9..=12 => {
             let spoiled = spoil_sheet(board, &right, random);
@@ -103,7 +104,7 @@ fn random_answer(board: &Board, job: &JobSheet, expansion: &Expansion, random: &
 }
 
 /// A fitting pair and 20, or a standing walk and 21.
-fn right_answer(board: &Board, expansion: &Expansion, random: &mut Random) -> (Answer, u8) {
+pub fn right_answer(board: &Board, expansion: &Expansion, random: &mut Random) -> (Answer, u8) {
     let conflicts = expansion.in_conflict();
     if conflicts.is_empty() {
         let mut wishes: Vec<Claim> = (0..board.all_rows()).map(|row| Claim(2 * row)).collect();
@@ -134,13 +135,17 @@ fn mirrored(walk: &Walk) -> Walk {
 }
 
 /// A walk that closes; it stands only if the opposite of its first claim is on the way.
-fn closed_walk(job: &JobSheet, expansion: &Expansion, random: &mut Random) -> Option<Case> {
+pub fn closed_walk(expansion: &Expansion, random: &mut Random) -> Option<Walk> {
     let closing = expansion.on_closed_walks();
     if closing.is_empty() {
         return None;
     }
     let claim = *random.choose(&closing);
-    let walk = vary(expansion.steps.path(claim, claim), random);
+    Some(vary(expansion.steps.path(claim, claim), random))
+}
+
+fn closed_case(job: &JobSheet, expansion: &Expansion, random: &mut Random) -> Option<Case> {
+    let walk = closed_walk(expansion, random)?;
     let first = walk[0].0;
     let known = match walk.iter().any(|(other, _)| *other == first.opposite()) {
         true => Outcome::success(21),
@@ -150,7 +155,7 @@ fn closed_walk(job: &JobSheet, expansion: &Expansion, random: &mut Random) -> Op
 }
 
 /// An answer of right form that may be wrong: the right one spoiled, or one of the other kind.
-fn spoil(board: &Board, right: &Answer, random: &mut Random) -> Answer {
+pub fn spoil(board: &Board, right: &Answer, random: &mut Random) -> Answer {
     match right {
         _ if random.once_in(8) => Answer::Walk(random_walk(board, random)),
         Answer::Tables(tables) => Answer::Tables(spoil_tables(tables, random)),

@@ -64,6 +64,12 @@ impl Judgement {
     pub fn outcome(outcome: Outcome) -> Judgement {
         Judgement { expected: Response { outcome, after: Vec::new() }, fault: None }
     }
+
+    /// This outcome, with this sheet at the buffer's front and all bytes behind it as before.
+    pub fn writing(outcome: Outcome, sheet: &[u8], before: &[u8]) -> Judgement {
+        let after = [sheet, &before[sheet.len()..]].concat();
+        Judgement { expected: Response { outcome, after: vec![after] }, fault: None }
+    }
 }
 
 pub struct Call {
@@ -76,6 +82,8 @@ pub struct Call {
     pub count: usize,
     /// The codes it can answer; each must be met often.
     pub codes: &'static [u64],
+    /// Those among them that the call is there for; they must be met more often.
+    pub foremost: &'static [u64],
     /// Whether tables and walks must both make up a good part of the answers.
     pub balanced: bool,
     /// Cases that come first, whatever the seed.

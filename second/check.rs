@@ -61,7 +61,7 @@ fn test_walk(board: &Board, walk: &Walk) -> Result<u8, Refusal> {
 }
 
 /// The answer of a sheet, or the first fault from the left.
-fn read_answer(board: &Board, sheet: &[u8]) -> Result<Answer, Refusal> {
+pub fn read_answer(board: &Board, sheet: &[u8]) -> Result<Answer, Refusal> {
     let mut rest = Rest { sheet, place: 0 };
     let rows = [board.rows(0), board.rows(1)];
     // Row counts are at least 1, so a first count of 0 can only be a walk's.

@@ -21,6 +21,7 @@ pub const READER: Call = Call {
     writes: 0,
     count: USUAL_COUNT,
     codes: &[0, 1, 2, 3, 4, 5],
+    foremost: &[],
     balanced: false,
     named: named_sheets,
     make: random_sheets,

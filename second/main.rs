@@ -1,7 +1,7 @@
 // The second program: makes cases, judges each by document 01 alone, and compares with the proved library.
 // It is written apart from the library, so that an error in both at the same place is unlikely.
 // Usage: compare [--seed N] [--count N] -- COMMAND ARGS..   The command speaks the protocol of host/drive.c.
-// It leans on jobs, answers and tasks for the cases and on pipe for the command.
+// It leans on jobs, answers, tasks and widenings for the cases and on pipe for the command.
 
 mod answer;
 mod answers;
@@ -18,12 +18,16 @@ mod outcome;
 mod pipe;
 mod random;
 mod read;
+mod room;
 mod shapes;
 mod solve;
 mod spoil;
 mod steps;
 mod tasks;
 mod ties;
+mod widen;
+mod widenings;
+mod wider;
 
 use case::{to_hex, Call, Case, Judgement, Response};
 use outcome::{TABLES, WALK};
@@ -34,12 +38,13 @@ use std::process::ExitCode;
 use std::sync::mpsc::{channel, Receiver, Sender};
 use std::thread;
 
-const CALLS: &[Call] = &[jobs::READER, answers::CHECKER, tasks::SOLVER];
+const CALLS: &[Call] = &[jobs::READER, answers::CHECKER, tasks::SOLVER, widenings::WIDENER];
 
 const USAGE: &str = "usage: compare [--seed N] [--count N] -- COMMAND ARGS..";
 const SEED: u64 = 1;
-/// How often each code must be met: once in so many cases, but no more than so often.
+/// How often each code must be met, and those a call is there for: once in so many cases, but no more than so often.
 const ONCE_IN: usize = 200;
+const FOREMOST_ONCE_IN: usize = 50;
 const OFTEN: usize = 1_000;
 /// The least part of the answers, in percent, that tables and walks must have; fewer answers say nothing.
 const LEAST_PART: usize = 40;
@@ -106,12 +111,13 @@ fn compare_all(settings: &Settings) -> Result<usize, String> {
 
 /// Prints how often each code was met, and refuses a comparison that hardly meets one of them.
 fn report(call: &Call, tally: &Tally) -> Result<(), String> {
-    let often = OFTEN.min(tally.values().sum::<usize>() / ONCE_IN);
+    let cases = tally.values().sum::<usize>();
     for (code, met) in tally {
         println!("{}: code {code} met by {met} cases", call.name);
     }
     for code in call.codes {
-        let met = met(tally, *code);
+        let once_in = if call.foremost.contains(code) { FOREMOST_ONCE_IN } else { ONCE_IN };
+        let (met, often) = (met(tally, *code), OFTEN.min(cases / once_in));
         if met < often {
             return Err(format!("{}: code {code} is met by {met} cases, and {often} are wanted", call.name));
         }

@@ -21,9 +21,12 @@ pub struct Outcome {
 pub const TABLES: u8 = 20;
 pub const WALK: u8 = 21;
 
-pub const NO_SHEET: u64 = 0;
+const NO_SHEET: u64 = 0;
 pub const JOB: u64 = 1;
 pub const ANSWER: u64 = 2;
+pub const JOB_Q: u64 = 3;
+
+const NO_ROOM: u8 = 6;
 
 impl Outcome {
     /// A success that writes nothing.
@@ -38,6 +41,11 @@ impl Outcome {
 
     pub fn refused(refusal: Refusal, sheet: u64) -> Outcome {
         Outcome { code: refusal.code as u64, sheet, place: refusal.place as u64, written: 0 }
+    }
+
+    /// The answer buffer is too short.
+    pub fn no_room() -> Outcome {
+        Outcome::refused(Refusal { code: NO_ROOM, place: 0 }, NO_SHEET)
     }
 
     /// From the low bits up: code in 8, sheet in 8, place in 24, bytes written in 24.

@@ -2,7 +2,7 @@
 // Most of these lie near the line between tables and walk, where one rule decides.
 // Answer buffers are full of random bytes, with room enough or too little.
 // Small boards are settled by trying every pair in order, so that this program's own solver is tested too.
-// It leans on make, shapes, ties, damage, solve and check.
+// It leans on make, shapes, ties, damage, room, solve and check.
 
 use crate::answer::Answer;
 use crate::board::Board;
@@ -12,17 +12,14 @@ use crate::damage::damage;
 use crate::job::{Job, JobSheet, MOST_RULES, MOST_WIRES};
 use crate::make::{fitting_job, job_of_size, longest_job, random_job, tied_job};
 use crate::named::{EQUAL_AS_WIRES, J1, J2, J3, J4, J5, J6, J6_WIDENED, J7};
-use crate::outcome::{Outcome, Refusal, JOB, NO_SHEET, TABLES, WALK};
+use crate::outcome::{Outcome, Refusal, JOB, TABLES, WALK};
 use crate::random::Random;
 use crate::read::read_job;
+use crate::room::{enough_room, too_little_room, MOST_ROOM, ROOM};
 use crate::shapes::{job_near_line, largest_near_line};
 use crate::solve::solve;
 use crate::ties::{chain_job, ring_job};
 
-/// The longest answer sheet, and the room that is asked for.
-const ROOM: usize = 8190;
-const MOST_ROOM: usize = 65536;
-const NO_ROOM: u8 = 6;
 /// Every pair is tried on boards with so many rows and wires or fewer.
 const FEW_ROWS: usize = 8;
 const FEW_WIRES: usize = 5;
@@ -33,6 +30,7 @@ pub const SOLVER: Call = Call {
     writes: 1,
     count: 23_000,
     codes: &[1, 2, 3, 4, 5, 6, 20, 21],
+    foremost: &[],
     balanced: true,
     named: named_tasks,
     make: random_tasks,
@@ -42,6 +40,7 @@ pub const SOLVER: Call = Call {
 /// The paper's jobs with its answers. Several walks may stand, so a walk is only known to be one.
 fn named_tasks(random: &mut Random) -> Vec<Case> {
     let tables = |a: &[u8], b: &[u8]| Known::Tables(Answer::Tables([a.to_vec(), b.to_vec()]).sheet());
+    let no_room = || Known::Outcome(Outcome::no_room());
     let of_job = |code, place| Known::Outcome(Outcome::refused(Refusal { code, place }, JOB));
     let cases = [
         (J1, ROOM, Known::Tables(hex("01 00 00 01 00 00 00 00"))),
@@ -78,11 +77,7 @@ fn random_tasks(random: &mut Random) -> Vec<Case> {
     let board = Board::of(job);
     let few = board.all_rows() <= FEW_ROWS && board.wires() <= FEW_WIRES;
     let known = few.then(|| by_trying(&board));
-    let room = match random.below(400) {
-        0 => random.within(ROOM, MOST_ROOM),
-        1..=100 => ROOM + random.within(1, 40),
-        _ => ROOM,
-    };
+    let room = enough_room(random);
     vec![case(sheet, room, known, random)]
 }
 
@@ -109,23 +104,14 @@ fn task_job(random: &mut Random) -> Job {
 fn refused_task(random: &mut Random) -> Case {
     let job = if random.once_in(2) { random_job(random) } else { tied_job(random) };
     let sheet = JobSheet::of(&job);
-    let room = match random.below(6) {
-        0 | 1 => ROOM - 1,
-        2 => 0,
-        3 => random.below(16),
-        _ => random.below(ROOM),
-    };
+    let room = too_little_room(random);
     if random.once_in(4) {
-        return case(sheet.bytes, room, Some(no_room()), random);
+        return case(sheet.bytes, room, Some(Known::Outcome(Outcome::no_room())), random);
     }
     let damaged = damage(&sheet, random);
     let known = damaged.known.map(|refusal| Known::Outcome(Outcome::refused(refusal, JOB)));
     let room = if random.once_in(2) { ROOM } else { room };
     case(damaged.bytes, room, known, random)
-}
-
-fn no_room() -> Known {
-    Known::Outcome(Outcome::refused(Refusal { code: NO_ROOM, place: 0 }, NO_SHEET))
 }
 
 fn case(job: Vec<u8>, room: usize, known: Option<Known>, random: &mut Random) -> Case {
@@ -150,10 +136,10 @@ fn judge(slices: &[Vec<u8>], got: &Response) -> Judgement {
     let (job, before) = (&slices[0], &slices[1]);
     let job = match read_job(job) {
         Ok(job) => job,
-        Err(refusal) => return writing(Outcome::refused(refusal, JOB), &[], before),
+        Err(refusal) => return Judgement::writing(Outcome::refused(refusal, JOB), &[], before),
     };
     if before.len() < ROOM {
-        return writing(Outcome::refused(Refusal { code: NO_ROOM, place: 0 }, NO_SHEET), &[], before);
+        return Judgement::writing(Outcome::no_room(), &[], before);
     }
     let board = Board::of(job);
     let answer = solve(&board);
@@ -162,7 +148,7 @@ fn judge(slices: &[Vec<u8>], got: &Response) -> Judgement {
     if code == WALK && got.outcome.code == WALK as u64 {
         return judge_walk(&board, before, got);
     }
-    writing(Outcome::wrote(code, sheet.len()), &sheet, before)
+    Judgement::writing(Outcome::wrote(code, sheet.len()), &sheet, before)
 }
 
 /// Any walk is right that stands and is short enough.
@@ -176,11 +162,5 @@ fn judge_walk(board: &Board, before: &[u8], got: &Response) -> Judgement {
         Ok(_) => Some("the sheet holds no walk".into()),
         Err(refusal) => Some(format!("the sheet is refused with {} at {}", refusal.code, refusal.place)),
     };
-    Judgement { fault, ..writing(Outcome::wrote(WALK, written), sheet, before) }
-}
-
-/// This outcome, with this sheet at the buffer's front and all bytes behind it as before.
-fn writing(outcome: Outcome, sheet: &[u8], before: &[u8]) -> Judgement {
-    let after = [sheet, &before[sheet.len()..]].concat();
-    Judgement { expected: Response { outcome, after: vec![after] }, fault: None }
+    Judgement { fault, ..Judgement::writing(Outcome::wrote(WALK, written), sheet, before) }
 }
