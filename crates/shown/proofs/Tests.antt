@@ -14,7 +14,7 @@ use Rattle.steps.specs.declared.Outcome.{Outcome}
 use Rattle.steps.specs.Outcome.{success}
 use Rattle.sheet.specs.Job.{Job, Verdict, accepted, rejected}
 use Rattle.sheet.specs.JobSheet.{readJob}
-use Rattle.answer.specs.Answer.{Entry, Answer, tables, walk, AnswerVerdict, answered}
+use Rattle.answer.specs.Answer.{Entry, tables, walk, AnswerVerdict, answered}
 use Rattle.answer.specs.Answer.{rejected as unanswered}
 use Rattle.answer.specs.AnswerSheet.{readAnswer}
 use Rattle.answer.specs.Written.{tablesSheet, walkSheet}
