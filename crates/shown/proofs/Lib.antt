@@ -1,0 +1,4 @@
+pub mod Tests
+pub mod Laws
+pub mod Computed
+pub mod Shown
