@@ -63,20 +63,22 @@ build/test-sanitized build/test_solve-sanitized build/test_widen-sanitized: buil
 	@mkdir -p build
 	$(HOST) $(SANITIZED) -o $@ host/$*.c $(LIBRARY)
 
-host-test: build/test build/test_solve build/test_widen
+host-test: build/test build/test_solve build/test_widen build/ormsvelg
 	tools/x86 run build/test
 	tools/x86 run build/test_solve
 	tools/x86 run build/test_widen
+	host/test_command.sh build/ormsvelg
 ifeq ($(shell uname -m),x86_64)
 	$(MAKE) --no-print-directory host-test-sanitized
 else
 	@echo "skipped: sanitizers run on x86-64 alone"
 endif
 
-host-test-sanitized: build/test-sanitized build/test_solve-sanitized build/test_widen-sanitized
+host-test-sanitized: build/test-sanitized build/test_solve-sanitized build/test_widen-sanitized build/ormsvelg-sanitized
 	tools/x86 run build/test-sanitized
 	tools/x86 run build/test_solve-sanitized
 	tools/x86 run build/test_widen-sanitized
+	host/test_command.sh build/ormsvelg-sanitized
 
 build/drive: host/drive.c tools/x86 $(LIBRARY)
 	@mkdir -p build

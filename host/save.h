@@ -112,7 +112,7 @@ static inline int put(const char *path, const uint8_t *bytes, size_t length)
 {
     struct stat was;
     if (stat(path, &was) != 0)
-        return errno == ENOENT && replace(path, NULL, bytes, length);
+        return errno == ENOENT && path[0] != 0 && replace(path, NULL, bytes, length);
     if (S_ISREG(was.st_mode))
         return replace_there(path, &was, bytes, length);
     return write_through(path, bytes, length);
