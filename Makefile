@@ -4,7 +4,8 @@
 #   make build/ormsvelg               the command: ormsvelg read, solve, check and widen for files, in words
 #   make read JOB=FILE                what the command says of a job sheet
 #   make check JOB=FILE ANSWER=FILE   what the command says of an answer sheet for a job sheet
-#   make host-test                    the C tests over the static library, and the command's
+#   make install PREFIX=/usr/local    the command, its manual page, the library, its header and its pkg-config file
+#   make host-test                    the C tests over the static library, the command's and the installation's
 #   make compare SEED=1 COUNT=50000   random cases, so many of each call, against the independent second program
 #   make speed                        the library's times against plain C and C++, native
 
@@ -13,6 +14,7 @@ SEED ?= 1
 COUNT ?=
 
 VERSION = 0.1.0
+PREFIX ?= /usr/local
 LIBRARY = target/staticlib/libormsvelg.a
 C = -std=c11 -Wall -Wextra -Werror
 # Loops are aligned, so that no time hangs on where the linker happens to put a short one.
@@ -21,7 +23,7 @@ HOST = tools/x86 cc $(C) -Wpedantic -O2 -Iinclude
 SANITIZED = -O0 -g -fsanitize=address,undefined -fno-sanitize-recover=all
 PROVED = crates.txt $(shell find crates -name '*.rt' -o -name '*.antt')
 
-.PHONY: test run read check host-test host-test-sanitized compare speed clean
+.PHONY: test run read check install host-test host-test-sanitized compare speed clean
 
 test:
 	.ci/run
@@ -55,6 +57,17 @@ check: build/ormsvelg
 	@test -n "$(JOB)" && test -n "$(ANSWER)" || { echo "usage: make check JOB=FILE ANSWER=FILE"; exit 2; }
 	@tools/x86 run build/ormsvelg check "$(JOB)" "$(ANSWER)" || [ $$? -eq 1 ]
 
+TO = $(DESTDIR)$(PREFIX)
+
+install: build/ormsvelg
+	install -d "$(TO)/bin" "$(TO)/lib/pkgconfig" "$(TO)/include" "$(TO)/share/man/man1"
+	install -m 755 build/ormsvelg "$(TO)/bin/ormsvelg"
+	install -m 644 $(LIBRARY) "$(TO)/lib/libormsvelg.a"
+	install -m 644 include/ormsvelg.h "$(TO)/include/ormsvelg.h"
+	install -m 644 host/ormsvelg.1 "$(TO)/share/man/man1/ormsvelg.1"
+	sed '/^#/d; s|@PREFIX@|$(PREFIX)|; s|@VERSION@|$(VERSION)|' host/ormsvelg.pc.in >build/ormsvelg.pc
+	install -m 644 build/ormsvelg.pc "$(TO)/lib/pkgconfig/ormsvelg.pc"
+
 build/test build/test_solve build/test_widen: build/%: host/%.c host/lent.h include/ormsvelg.h tools/x86 $(LIBRARY)
 	@mkdir -p build
 	$(HOST) -o $@ host/$*.c $(LIBRARY)
@@ -68,6 +81,7 @@ host-test: build/test build/test_solve build/test_widen build/ormsvelg
 	tools/x86 run build/test_solve
 	tools/x86 run build/test_widen
 	host/test_command.sh build/ormsvelg
+	host/test_install.sh
 ifeq ($(shell uname -m),x86_64)
 	$(MAKE) --no-print-directory host-test-sanitized
 else
