@@ -1,9 +1,11 @@
 # Ormsvelg: what there is to run. Build outputs go to build/, what rt proves and writes to target/.
 #   make test                         the whole gate, .ci/run
 #   make run JOB=FILE                 the answer for a job sheet, as the bench prints it
-#   make read JOB=FILE                what the reader says of a job sheet, in words
-#   make check JOB=FILE ANSWER=FILE   what the checker says of an answer sheet for a job sheet, in words
-#   make host-test                    the C tests over the static library
+#   make build/ormsvelg               the command: ormsvelg read, solve, check and widen for files, in words
+#   make read JOB=FILE                what the command says of a job sheet
+#   make check JOB=FILE ANSWER=FILE   what the command says of an answer sheet for a job sheet
+#   make install PREFIX=/usr/local    the command, its manual page, the library, its header and its pkg-config file
+#   make host-test                    the C tests over the static library, the command's and the installation's
 #   make compare SEED=1 COUNT=50000   random cases, so many of each call, against the independent second program
 #   make speed                        the library's times against plain C and C++, native
 
@@ -11,14 +13,17 @@ SEED ?= 1
 # Without a count each call has its own.
 COUNT ?=
 
+VERSION = 0.1.0
+PREFIX ?= /usr/local
 LIBRARY = target/staticlib/libormsvelg.a
 C = -std=c11 -Wall -Wextra -Werror
 # Loops are aligned, so that no time hangs on where the linker happens to put a short one.
 CXXFLAGS = -std=c++20 -Wall -Wextra -Werror -O3 -falign-functions=64 -falign-loops=64
-HOST = tools/x86 cc $(C) -O2 -Iinclude
+HOST = tools/x86 cc $(C) -Wpedantic -O2 -Iinclude
+SANITIZED = -O0 -g -fsanitize=address,undefined -fno-sanitize-recover=all
 PROVED = crates.txt $(shell find crates -name '*.rt' -o -name '*.antt')
 
-.PHONY: test run read check host-test host-test-sanitized compare speed clean
+.PHONY: test run read check install host-test host-test-sanitized compare speed clean
 
 test:
 	.ci/run
@@ -26,21 +31,42 @@ test:
 $(LIBRARY): $(PROVED)
 	rt staticlib ormsvelg
 
-build/read build/check build/run: build/%: host/%.c host/sheet.h include/ormsvelg.h tools/x86 $(LIBRARY)
+build/run: host/run.c host/sheet.h include/ormsvelg.h tools/x86 $(LIBRARY)
 	@mkdir -p build
-	$(HOST) -o $@ host/$*.c $(LIBRARY)
+	$(HOST) -o $@ host/run.c $(LIBRARY)
 
-read: build/read
-	@test -n "$(JOB)" || { echo "usage: make read JOB=FILE"; exit 2; }
-	@tools/x86 run build/read "$(JOB)" || [ $$? -eq 1 ]
+COMMAND = host/ormsvelg.c host/save.h host/sheet.h host/words.h include/ormsvelg.h Makefile tools/x86 $(LIBRARY)
+
+build/ormsvelg: $(COMMAND)
+	@mkdir -p build
+	$(HOST) -DVERSION='"$(VERSION)"' -o $@ host/ormsvelg.c $(LIBRARY)
+
+build/ormsvelg-sanitized: $(COMMAND)
+	@mkdir -p build
+	$(HOST) $(SANITIZED) -DVERSION='"$(VERSION)"' -o $@ host/ormsvelg.c $(LIBRARY)
 
 run: build/run
 	@test -n "$(JOB)" || { echo "usage: make run JOB=FILE"; exit 2; }
 	@tools/x86 run build/run "$(JOB)" || [ $$? -eq 1 ]
 
-check: build/check
+read: build/ormsvelg
+	@test -n "$(JOB)" || { echo "usage: make read JOB=FILE"; exit 2; }
+	@tools/x86 run build/ormsvelg read "$(JOB)" || [ $$? -eq 1 ]
+
+check: build/ormsvelg
 	@test -n "$(JOB)" && test -n "$(ANSWER)" || { echo "usage: make check JOB=FILE ANSWER=FILE"; exit 2; }
-	@tools/x86 run build/check "$(JOB)" "$(ANSWER)" || [ $$? -eq 1 ]
+	@tools/x86 run build/ormsvelg check "$(JOB)" "$(ANSWER)" || [ $$? -eq 1 ]
+
+TO = $(DESTDIR)$(PREFIX)
+
+install: build/ormsvelg
+	install -d "$(TO)/bin" "$(TO)/lib/pkgconfig" "$(TO)/include" "$(TO)/share/man/man1"
+	install -m 755 build/ormsvelg "$(TO)/bin/ormsvelg"
+	install -m 644 $(LIBRARY) "$(TO)/lib/libormsvelg.a"
+	install -m 644 include/ormsvelg.h "$(TO)/include/ormsvelg.h"
+	install -m 644 host/ormsvelg.1 "$(TO)/share/man/man1/ormsvelg.1"
+	sed '/^#/d; s|@PREFIX@|$(PREFIX)|; s|@VERSION@|$(VERSION)|' host/ormsvelg.pc.in >build/ormsvelg.pc
+	install -m 644 build/ormsvelg.pc "$(TO)/lib/pkgconfig/ormsvelg.pc"
 
 build/test build/test_solve build/test_widen: build/%: host/%.c host/lent.h include/ormsvelg.h tools/x86 $(LIBRARY)
 	@mkdir -p build
@@ -48,22 +74,25 @@ build/test build/test_solve build/test_widen: build/%: host/%.c host/lent.h incl
 
 build/test-sanitized build/test_solve-sanitized build/test_widen-sanitized: build/%-sanitized: host/%.c host/lent.h include/ormsvelg.h tools/x86 $(LIBRARY)
 	@mkdir -p build
-	$(HOST) -O0 -g -fsanitize=address,undefined -fno-sanitize-recover=all -o $@ host/$*.c $(LIBRARY)
+	$(HOST) $(SANITIZED) -o $@ host/$*.c $(LIBRARY)
 
-host-test: build/test build/test_solve build/test_widen
+host-test: build/test build/test_solve build/test_widen build/ormsvelg
 	tools/x86 run build/test
 	tools/x86 run build/test_solve
 	tools/x86 run build/test_widen
+	host/test_command.sh build/ormsvelg
+	host/test_install.sh
 ifeq ($(shell uname -m),x86_64)
 	$(MAKE) --no-print-directory host-test-sanitized
 else
 	@echo "skipped: sanitizers run on x86-64 alone"
 endif
 
-host-test-sanitized: build/test-sanitized build/test_solve-sanitized build/test_widen-sanitized
+host-test-sanitized: build/test-sanitized build/test_solve-sanitized build/test_widen-sanitized build/ormsvelg-sanitized
 	tools/x86 run build/test-sanitized
 	tools/x86 run build/test_solve-sanitized
 	tools/x86 run build/test_widen-sanitized
+	host/test_command.sh build/ormsvelg-sanitized
 
 build/drive: host/drive.c tools/x86 $(LIBRARY)
 	@mkdir -p build

@@ -1,67 +1,60 @@
-/* host/sheet.h: what the host programs share: a sheet from a file, and an outcome in words.
- * A success is `accepted`, `tables fit` or `walk stands`; a refusal is `refused CODE sheet S place P: REASON`.
+/* host/sheet.h: what the host programs share: a sheet from a file, its numbers, and a table as digits.
+ * The name `-` is standard input. A file is never read further than the byte that decides its outcome.
  */
 #ifndef HOST_SHEET_H
 #define HOST_SHEET_H
 
+#include <errno.h>
 #include <stdio.h>
+#include <string.h>
 
 #include "ormsvelg.h"
 
-/* Exit status: success of the call 0, a refusal 1, and this where a file could not be read. */
+/* Exit status: success of the call 0, a refusal 1, and this for a wrong use or a file that fails. */
 #define NO_SHEET 2
 
-/* Takes up to `room` bytes of a file. Gives 0, once it has said why, where the file can't be read. */
-static inline int load(const char *path, uint8_t *sheet, size_t room, size_t *length)
+/* One byte beyond the longest sheet decides the outcome of any longer file. */
+struct sheet {
+    uint8_t bytes[ORMSVELG_LONGEST_ANSWER + 1];
+    size_t length;
+};
+
+static inline int is_standard_input(const char *path) { return strcmp(path, "-") == 0; }
+
+/* Takes an open file's bytes, as many as there is room for. Gives 0 or why it can't be read. */
+static inline int take(FILE *file, struct sheet *sheet)
 {
-    FILE *file = fopen(path, "rb");
-    if (file == NULL) {
-        perror(path);
+    errno = 0;
+    sheet->length = fread(sheet->bytes, 1, sizeof sheet->bytes, file);
+    if (!ferror(file))
         return 0;
-    }
-    *length = fread(sheet, 1, room, file);
-    int unread = ferror(file);
-    fclose(file);
-    if (unread)
-        fprintf(stderr, "%s: cannot be read\n", path);
-    return !unread;
+    return errno != 0 ? errno : EIO;
 }
 
-static inline const char *reason(uint32_t code)
+/* Takes a file's bytes. Gives 0, once it has said why, where the file can't be read. */
+static inline int load(const char *path, struct sheet *sheet)
 {
-    switch (code) {
-    case ORMSVELG_ENDS: return "job ends where a byte is called for";
-    case ORMSVELG_TOO_MANY: return "count above its limit";
-    case ORMSVELG_NOT_RISING: return "entry not above the one before";
-    case ORMSVELG_TOO_HIGH: return "wire position or term not below its limit";
-    case ORMSVELG_LEFT_OVER: return "bytes left over";
-    case ORMSVELG_NO_ROOM: return "buffer under 8,190 bytes";
-    case ORMSVELG_WRONG_LENGTH: return "answer ends early or has bytes over";
-    case ORMSVELG_OTHER_KIND: return "count of neither permitted kind";
-    case ORMSVELG_NOT_A_BIT: return "table byte above 1";
-    case ORMSVELG_BREAKS_RULE: return "tables break a rule at this combination";
-    case ORMSVELG_OUT_OF_RANGE: return "claim or combination not below its limit";
-    case ORMSVELG_NO_STEP: return "the step from this entry does not hold";
-    case ORMSVELG_NO_OPPOSITE: return "opposite of the first claim is absent";
-    case ORMSVELG_ASKS_MORE: return "job Q does not ask no more than job P";
-    case ORMSVELG_WALK_GIVEN: return "answer is a walk where tables are needed";
-    default: return "a code that is not in use";
-    }
+    FILE *file = is_standard_input(path) ? stdin : fopen(path, "rb");
+    int why = file == NULL ? errno : take(file, sheet);
+    if (file != NULL && file != stdin)
+        fclose(file);
+    if (why != 0)
+        fprintf(stderr, "ormsvelg: cannot read %s: %s\n", is_standard_input(path) ? "standard input" : path, strerror(why));
+    return why == 0;
 }
 
-/* Prints an outcome and gives the exit status. */
-static inline int tell(uint64_t outcome)
+/* A two-byte number, low byte first. */
+static inline unsigned word(const uint8_t *at) { return at[0] + 256u * at[1]; }
+
+/* A table from its count on: the cell's name and a digit for each row. Gives the place after it. */
+static inline const uint8_t *show_table(char cell, const uint8_t *at)
 {
-    uint32_t code = ormsvelg_code(outcome);
-    switch (code) {
-    case ORMSVELG_ACCEPTED: puts("accepted"); return 0;
-    case ORMSVELG_TABLES: puts("tables fit"); return 0;
-    case ORMSVELG_WALK: puts("walk stands"); return 0;
-    default:
-        printf("refused %u sheet %u place %u: %s\n", (unsigned)code, (unsigned)ormsvelg_sheet(outcome),
-               (unsigned)ormsvelg_place(outcome), reason(code));
-        return 1;
-    }
+    unsigned rows = word(at);
+    printf("%c ", cell);
+    for (unsigned row = 0; row < rows; row++)
+        putchar('0' + at[2 + row]);
+    putchar('\n');
+    return at + 2 + rows;
 }
 
 #endif

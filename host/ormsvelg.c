@@ -1,0 +1,214 @@
+/* host/ormsvelg.c: the command for files at the bench: reads, solves, checks and widens sheets, and tells it in words.
+ * Use: ormsvelg --help. Exit status: 0 an accepted outcome, 1 a refusal, 2 a wrong use or a file that fails.
+ * Every outcome is the proved library's. What stands here carries bytes and puts numbers into words.
+ */
+#define _XOPEN_SOURCE 700
+
+#include "save.h"
+#include "sheet.h"
+#include "words.h"
+
+#ifndef VERSION
+#define VERSION "of no version"
+#endif
+
+#define MOST_SHEETS 3
+
+enum act { READ, SOLVE, CHECK, WIDEN };
+
+struct verb {
+    const char *name, *wants;
+    int sheets, writes;
+};
+
+static const struct verb verbs[] = {
+    [READ] = {"read", "JOB", 1, 0},
+    [SOLVE] = {"solve", "JOB [-o ANSWER]", 1, 1},
+    [CHECK] = {"check", "JOB ANSWER", 2, 0},
+    [WIDEN] = {"widen", "P Q ANSWER [-o OUT]", 3, 1},
+};
+
+#define VERBS ((int)(sizeof verbs / sizeof verbs[0]))
+
+/* What the words of the command ask for: an act, its sheets, and where an answer sheet goes, or null. */
+struct request {
+    int act, sheets;
+    const char *paths[MOST_SHEETS], *target;
+};
+
+static const char help[] =
+    "ormsvelg: whether two cells of a board can be filled so that every rule holds in every state of the wires.\n"
+    "\n"
+    "  ormsvelg read JOB                     says what a job sheet holds\n"
+    "  ormsvelg solve JOB [-o ANSWER]        gives the first fitting pair of tables, or a walk that shows there is none\n"
+    "  ormsvelg check JOB ANSWER             checks an answer sheet for a job\n"
+    "  ormsvelg widen P Q ANSWER [-o OUT]    widens tables for job P to job Q, which asks no more\n"
+    "  ormsvelg --help | --version\n"
+    "\n"
+    "A sheet is a file of bytes; one of them may be -, standard input. With -o the answer sheet is put in a file, whole or\n"
+    "not at all. A table has a digit for each row, rows rising; a row is numbered by the wires the cell sees, lowest\n"
+    "first, with weights 1, 2, 4 and so on. A line of a walk says what one row's value asks of another's, by the states\n"
+    "of the wires; the last leads back to the first. In a refusal sheet 1 is JOB or P, sheet 2 ANSWER, sheet 3 Q.\n"
+    "\n"
+    "Exit status: 0 an accepted outcome, 1 a refusal, 2 a wrong use or a file that fails.\n";
+
+static int wrong_use(const char *what, const char *which)
+{
+    fprintf(stderr, "ormsvelg: %s%s\ntry: ormsvelg --help\n", what, which);
+    return 0;
+}
+
+static int find_act(const char *name, struct request *request)
+{
+    for (request->act = 0; request->act < VERBS; request->act++)
+        if (strcmp(name, verbs[request->act].name) == 0)
+            return 1;
+    return wrong_use("unknown command: ", name);
+}
+
+/* Takes -o and the name after it. Gives how many words that is, or 0 for a wrong use. */
+static int take_target(int left, char **words, struct request *request)
+{
+    if (!verbs[request->act].writes)
+        return wrong_use("-o has no meaning for ", verbs[request->act].name);
+    if (request->target != NULL)
+        return wrong_use("-o is given twice", "");
+    if (left < 2)
+        return wrong_use("-o wants a file", "");
+    if (is_standard_input(words[1]))
+        return wrong_use("-o wants a file, not -", "");
+    request->target = words[1];
+    return 2;
+}
+
+static int take_path(const char *word, struct request *request)
+{
+    if (word[0] == '-' && word[1] != 0)
+        return wrong_use("unknown option: ", word);
+    if (request->sheets == verbs[request->act].sheets)
+        return wrong_use("one word too many: ", word);
+    for (int i = 0; i < request->sheets; i++)
+        if (is_standard_input(word) && is_standard_input(request->paths[i]))
+            return wrong_use("only one sheet can be -, standard input", "");
+    request->paths[request->sheets++] = word;
+    return 1;
+}
+
+/* Takes the words after the command's name. */
+static int take_words(int count, char **words, struct request *request)
+{
+    int at = 1, taken;
+    if (count == 0)
+        return wrong_use("a command is missing", "");
+    if (!find_act(words[0], request))
+        return 0;
+    while (at < count) {
+        if (strcmp(words[at], "-o") == 0)
+            taken = take_target(count - at, words + at, request);
+        else
+            taken = take_path(words[at], request);
+        if (taken == 0)
+            return 0;
+        at += taken;
+    }
+    if (request->sheets == verbs[request->act].sheets)
+        return 1;
+    fprintf(stderr, "ormsvelg: a sheet is missing\nuse: ormsvelg %s %s\n", words[0], verbs[request->act].wants);
+    return 0;
+}
+
+/* Whether the target is one of the sheets: the answer would then take its place. */
+static int target_is_read(const struct request *request)
+{
+    struct stat target, sheet;
+    if (request->target == NULL || stat(request->target, &target) != 0 || !S_ISREG(target.st_mode))
+        return 0;
+    for (int i = 0; i < request->sheets; i++) {
+        if (is_standard_input(request->paths[i]) || stat(request->paths[i], &sheet) != 0)
+            continue;
+        if (sheet.st_dev == target.st_dev && sheet.st_ino == target.st_ino)
+            return !wrong_use("-o names a sheet that is read: ", request->target);
+    }
+    return 0;
+}
+
+/* The sheets that a call reads, in the order of the words, and the answer sheet that it writes. */
+struct bench {
+    struct sheet sheets[MOST_SHEETS];
+    uint8_t out[ORMSVELG_LONGEST_ANSWER];
+};
+
+static uint64_t call(enum act act, struct bench *bench)
+{
+    const struct sheet *job = &bench->sheets[0], *second = &bench->sheets[1], *third = &bench->sheets[2];
+    switch (act) {
+    case READ: return ormsvelg_read(job->bytes, job->length);
+    case SOLVE: return ormsvelg_solve(job->bytes, job->length, bench->out, sizeof bench->out);
+    case CHECK: return ormsvelg_check(job->bytes, job->length, second->bytes, second->length);
+    default:
+        return ormsvelg_widen(job->bytes, job->length, second->bytes, second->length, third->bytes, third->length,
+                              bench->out, sizeof bench->out);
+    }
+}
+
+/* Says the outcome and gives the exit status. */
+static int tell(uint64_t outcome, enum act act, const struct bench *bench)
+{
+    const uint8_t *job = bench->sheets[0].bytes;
+    const uint8_t *handed_in = bench->sheets[act == WIDEN ? 2 : 1].bytes;
+    const uint8_t *answer = act == CHECK ? handed_in : bench->out;
+    switch (ormsvelg_code(outcome)) {
+    case ORMSVELG_ACCEPTED:
+        puts("accepted");
+        show_job(job);
+        return 0;
+    case ORMSVELG_TABLES: show_tables(answer); return 0;
+    case ORMSVELG_WALK: show_walk(job, answer); return 0;
+    default: show_refusal(outcome, job, handed_in); return 1;
+    }
+}
+
+static int serve(const struct request *request)
+{
+    static struct bench bench;
+    if (target_is_read(request))
+        return NO_SHEET;
+    for (int i = 0; i < request->sheets; i++)
+        if (!load(request->paths[i], &bench.sheets[i]))
+            return NO_SHEET;
+    uint64_t outcome = call((enum act)request->act, &bench);
+    if (request->target != NULL && ormsvelg_written(outcome) > 0
+        && !save(request->target, bench.out, ormsvelg_written(outcome)))
+        return NO_SHEET;
+    return tell(outcome, (enum act)request->act, &bench);
+}
+
+/* What was printed may still fail to go out. */
+static int finish(int status)
+{
+    int failed = ferror(stdout), why = errno;
+    if (fclose(stdout) != 0 && !failed) {
+        failed = 1;
+        why = errno;
+    }
+    if (!failed)
+        return status;
+    fprintf(stderr, "ormsvelg: cannot write standard output: %s\n", strerror(why));
+    return NO_SHEET;
+}
+
+int main(int count, char **words)
+{
+    struct request request = {0};
+    if (count > 1 && strcmp(words[1], "--help") == 0) {
+        fputs(help, stdout);
+        return finish(0);
+    }
+    if (count > 1 && strcmp(words[1], "--version") == 0) {
+        puts("ormsvelg " VERSION);
+        return finish(0);
+    }
+    if (!take_words(count - 1, words + 1, &request))
+        return NO_SHEET;
+    return finish(serve(&request));
+}

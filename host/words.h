@@ -1,0 +1,179 @@
+/* host/words.h: a job, an answer and a refusal in words. Each takes only what the library has accepted that far: a job that
+ * was read, an answer whose form was read. Nothing is judged here; the numbers come from the sheets and the outcome.
+ */
+#ifndef HOST_WORDS_H
+#define HOST_WORDS_H
+
+#include "sheet.h"
+
+/* Where an accepted job has its sections, and the numbers that its answers are read by. */
+struct board {
+    unsigned wires, rows_a, rows_b, rules;
+    const uint8_t *pins, *seen_a, *seen_b, *first_rule;
+};
+
+static inline struct board board_of(const uint8_t *job)
+{
+    struct board board;
+    board.wires = job[0];
+    board.pins = job + 1;
+    board.seen_a = board.pins + board.wires;
+    board.rows_a = 1u << board.seen_a[0];
+    board.seen_b = board.seen_a + 1 + board.seen_a[0];
+    board.rows_b = 1u << board.seen_b[0];
+    board.first_rule = board.seen_b + 1 + board.seen_b[0];
+    board.rules = word(board.first_rule);
+    board.first_rule += 2;
+    return board;
+}
+
+/* A counted run of bytes, from its count on. */
+static inline void show_seen(char cell, const uint8_t *seen, unsigned rows)
+{
+    printf("%c sees %s", cell, seen[0] == 0 ? "no wires" : "wires");
+    for (unsigned i = 1; i <= seen[0]; i++)
+        printf(" %u", seen[i]);
+    printf(", rows %u\n", rows);
+}
+
+static inline void show_term(unsigned wires, unsigned term)
+{
+    unsigned subject = term / 2;
+    if (subject < wires)
+        printf("wire %u is %u", subject, 1 - term % 2);
+    else
+        printf("%c is %u", subject == wires ? 'A' : 'B', 1 - term % 2);
+}
+
+/* A rule from its term count on. Gives the place after it. */
+static inline const uint8_t *show_rule(unsigned wires, unsigned number, const uint8_t *at)
+{
+    printf("rule %u: ", number);
+    if (at[0] == 0)
+        printf("never holds");
+    for (unsigned i = 1; i <= at[0]; i++) {
+        if (i > 1)
+            printf(" or ");
+        show_term(wires, at[i]);
+    }
+    putchar('\n');
+    return at + 1 + at[0];
+}
+
+static inline void show_job(const uint8_t *job)
+{
+    struct board board = board_of(job);
+    const uint8_t *at = board.first_rule;
+    printf("wires %u%s", board.wires, board.wires == 0 ? "" : ", on pins");
+    for (unsigned wire = 0; wire < board.wires; wire++)
+        printf(" %u", board.pins[wire]);
+    putchar('\n');
+    show_seen('A', board.seen_a, board.rows_a);
+    show_seen('B', board.seen_b, board.rows_b);
+    printf("rules %u\n", board.rules);
+    for (unsigned rule = 0; rule < board.rules; rule++)
+        at = show_rule(board.wires, rule, at);
+}
+
+/* The wires' states in a combination: the wire at position p has weight 2^p. */
+static inline void show_wires(unsigned wires, unsigned combination)
+{
+    printf("%s", wires == 0 ? "no wires" : "wires");
+    for (unsigned wire = 0; wire < wires; wire++)
+        printf(" %u=%u", wire, combination >> wire & 1);
+}
+
+/* Claim 2r says that row r holds 0, claim 2r+1 that it holds 1; the rows of A come first. */
+static inline void show_claim(const struct board *board, unsigned claim)
+{
+    unsigned row = claim / 2;
+    if (row < board->rows_a)
+        printf("A row %u is %u", row, claim % 2);
+    else
+        printf("B row %u is %u", row - board->rows_a, claim % 2);
+}
+
+/* The step from an entry's claim to the next entry's, the last one's to the first's, by the entry's combination. */
+static inline void show_step(const struct board *board, const uint8_t *answer, unsigned entry)
+{
+    const uint8_t *entries = answer + 6;
+    unsigned next = entry + 1 == word(answer + 4) ? 0 : entry + 1;
+    show_claim(board, word(entries + 4 * entry));
+    printf(", so ");
+    show_claim(board, word(entries + 4 * next));
+    printf(", by ");
+    show_wires(board->wires, word(entries + 4 * entry + 2));
+    putchar('\n');
+}
+
+static inline void show_tables(const uint8_t *answer)
+{
+    puts("tables fit");
+    show_table('B', show_table('A', answer));
+}
+
+static inline void show_walk(const uint8_t *job, const uint8_t *answer)
+{
+    struct board board = board_of(job);
+    puts("walk stands: no pair of tables fits");
+    for (unsigned entry = 0; entry < word(answer + 4); entry++)
+        show_step(&board, answer, entry);
+}
+
+static inline const char *reason(uint32_t code)
+{
+    switch (code) {
+    case ORMSVELG_ENDS: return "job ends where a byte is called for";
+    case ORMSVELG_TOO_MANY: return "count above its limit";
+    case ORMSVELG_NOT_RISING: return "entry not above the one before";
+    case ORMSVELG_TOO_HIGH: return "wire position or term not below its limit";
+    case ORMSVELG_LEFT_OVER: return "bytes left over";
+    case ORMSVELG_NO_ROOM: return "buffer under 8,190 bytes";
+    case ORMSVELG_WRONG_LENGTH: return "answer ends early or has bytes over";
+    case ORMSVELG_OTHER_KIND: return "count that fits neither tables nor a walk for this job";
+    case ORMSVELG_NOT_A_BIT: return "table byte above 1";
+    case ORMSVELG_BREAKS_RULE: return "tables break a rule";
+    case ORMSVELG_OUT_OF_RANGE: return "claim or combination not below its limit";
+    case ORMSVELG_NO_STEP: return "step does not hold";
+    case ORMSVELG_NO_OPPOSITE: return "opposite of the first claim is absent";
+    case ORMSVELG_ASKS_MORE: return "job Q asks more than job P: other pins, a wire less, or a rule that contains no rule of P";
+    case ORMSVELG_WALK_GIVEN: return "answer is a walk where tables are needed";
+    default: return "a code that is not in use";
+    }
+}
+
+/* What the place of a refusal counts; null where the place says nothing. */
+static inline const char *place_word(uint32_t code)
+{
+    switch (code) {
+    case ORMSVELG_BREAKS_RULE: return "combination";
+    case ORMSVELG_NO_STEP: return "entry";
+    case ORMSVELG_NO_ROOM:
+    case ORMSVELG_NO_OPPOSITE:
+    case ORMSVELG_ASKS_MORE:
+    case ORMSVELG_WALK_GIVEN: return NULL;
+    default: return "byte";
+    }
+}
+
+/* A refusal, and for a combination or an entry what it is. */
+static inline void show_refusal(uint64_t outcome, const uint8_t *job, const uint8_t *answer)
+{
+    uint32_t code = ormsvelg_code(outcome), place = ormsvelg_place(outcome);
+    printf("refused: code %u on sheet %u", (unsigned)code, (unsigned)ormsvelg_sheet(outcome));
+    if (place_word(code) != NULL)
+        printf(" at %s %u", place_word(code), (unsigned)place);
+    printf(": %s\n", reason(code));
+    if (code == ORMSVELG_BREAKS_RULE) {
+        printf("broken at ");
+        show_wires(board_of(job).wires, place);
+        putchar('\n');
+    }
+    if (code == ORMSVELG_NO_STEP) {
+        struct board board = board_of(job);
+        printf("not so: ");
+        show_step(&board, answer, place);
+    }
+}
+
+#endif
