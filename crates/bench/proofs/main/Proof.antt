@@ -1,0 +1,62 @@
+-- The small program shares no more of its buffer than what was printed.
+use mathlib.Core.Path.{sym}
+use lib.Seq.{length-take-le}
+use Rattle.text.proofs.Ends.{texted-fits}
+use borrow.Author.Needs.{needs}
+use Rattle.bench.proofs.main.Statement.{statement}
+use Rattle.bench.proofs.main.Tie as tie
+
+-- src/main.rt:12:46
+slice-aggregate-read-full : tie.Need-slice-aggregate-read-full
+slice-aggregate-read-full c = search needs
+
+-- src/main.rt:12:9
+read-full-requires : tie.Need-read-full-requires
+read-full-requires c κs = search needs
+
+-- src/main.rt:14:30
+array-share-prefix-job : tie.Need-array-share-prefix-job
+array-share-prefix-job c = search needs
+
+-- src/main.rt:14:30
+slice-aggregate-text : tie.Need-slice-aggregate-text
+slice-aggregate-text c = search needs
+
+-- src/main.rt:14:46
+slice-aggregate-text-2 : tie.Need-slice-aggregate-text-2
+slice-aggregate-text-2 c = search needs
+
+-- src/main.rt:14:9
+text-requires : tie.Need-text-requires
+text-requires c κs = search needs
+
+-- src/main.rt:16:34
+array-share-prefix-out : tie.Need-array-share-prefix-out
+array-share-prefix-out c = texted-fits (c .before .text .ensures)
+
+-- src/main.rt:16:34
+slice-aggregate-write-all : tie.Need-slice-aggregate-write-all
+slice-aggregate-write-all c = sym (length-take-le _ _ (texted-fits (c .before .before .text .ensures)))
+
+-- src/main.rt:16:5
+write-all-requires : tie.Need-write-all-requires
+write-all-requires c κs = search needs
+
+-- src/main.rt:10:1
+returns : tie.Need-returns
+returns c = search needs
+
+pub main-spec : {M : Type 1} → statement M
+main-spec =
+    tie.close
+    (tie.spec
+    slice-aggregate-read-full
+    read-full-requires
+    array-share-prefix-job
+    slice-aggregate-text
+    slice-aggregate-text-2
+    text-requires
+    array-share-prefix-out
+    slice-aggregate-write-all
+    write-all-requires
+    returns)

@@ -1,0 +1,95 @@
+-- Numbers in decimal.
+--     decimal-one, decimal-more      the digits of a number below 10, and of one from 10 on: those of its tenth, and its last
+--     decimal-some                   there is a digit
+--     decimal-two, decimal-three, decimal-four      at most two digits below 100, three below 1,000, four below 10,000
+--     long-one, long-more            how many digits there are, by the same cases
+--     stored-one, stored-more        a store of the last digit makes the run of all digits
+--     more-length, more-room         the run of a tenth's digits keeps the buffer's length, and there is room after it
+-- Assumes nothing.
+use mathlib.Core.Path.{_≡_, refl, sym, ap, _∙_}
+use mathlib.Core.Logic.{_⊎_, inl, inr, ⊎-elim}
+use mathlib.Core.List.{List, [], _∷_, _++_}
+use Prim.Native.Nat.{ℕ, zero, suc, _+_, _/_, _%_, _<_, _≤_}
+use native.Mathlib.Decide.{decLt}
+use native.Mathlib.Omega.{arith}
+use lib.ListN.{length, set, length-append}
+use lib.Seq.{sets, length-sets}
+use borrow.Author.Tests.{lt-ltb, le-ltb}
+use Rattle.answer.proofs.Runs.{joined}
+use Rattle.text.specs.Decimal.{decimalIn, decimal}
+
+-- a number is below 10 or not
+low-or-high : (n : ℕ) → (n < 10) ⊎ (10 ≤ n)
+low-or-high n = go (decLt n 10)
+  where
+    go : Dec (n < 10) → (n < 10) ⊎ (10 ≤ n)
+    go (yes h) = inl h
+    go (no h) = inr (omega arith)
+
+-- the digits where the count is one more, by the same cases
+below-one : (k n : ℕ) → n < 10 → decimalIn (suc k) n ≡ (48 + n) ∷ []
+unfolding decimalIn
+below-one k n h = rw (lt-ltb n 10 h)
+
+below-more : (k n : ℕ) → 10 ≤ n → decimalIn (suc k) n ≡ decimalIn k (n / 10) ++ ((48 + n % 10) ∷ [])
+unfolding decimalIn
+below-more k n h = rw (le-ltb n 10 h)
+
+-- the digits are the same for every count above the number
+same : (j k n : ℕ) → n < j → n < k → decimalIn j n ≡ decimalIn k n
+same zero k n h l = absurd (omega arith)
+same (suc j) zero n h l = absurd (omega arith)
+same (suc j) (suc k) n h l =
+    ⊎-elim
+    (λ e. below-one j n e ∙ sym (below-one k n e))
+    (λ e.
+    below-more j n e ∙ ap (λ (xs : List ℕ). xs ++ ((48 + n % 10) ∷ [])) (same j k (n / 10) (omega arith) (omega arith)) ∙ sym (below-more k n e))
+    (low-or-high n)
+
+pub decimal-one : (n : ℕ) → n < 10 → decimal n ≡ (48 + n) ∷ []
+decimal-one n h = below-one n n h
+
+pub decimal-more : (n : ℕ) → 10 ≤ n → decimal n ≡ decimal (n / 10) ++ ((48 + n % 10) ∷ [])
+decimal-more n h =
+    below-more n n h ∙ ap (λ (xs : List ℕ). xs ++ ((48 + n % 10) ∷ [])) (same n (suc (n / 10)) (n / 10) (omega arith) (omega arith))
+
+pub long-one : (n : ℕ) → n < 10 → length (decimal n) ≡ 1
+long-one n h = ap length (decimal-one n h)
+
+pub long-more : (n : ℕ) → 10 ≤ n → length (decimal n) ≡ length (decimal (n / 10)) + 1
+long-more n h = ap length (decimal-more n h) ∙ length-append (decimal (n / 10)) ((48 + n % 10) ∷ [])
+
+pub decimal-some : (n : ℕ) → 1 ≤ length (decimal n)
+decimal-some n = ⊎-elim (λ e. omega (arith, long-one n e)) (λ e. omega (arith, long-more n e)) (low-or-high n)
+
+-- one digit more than the tenth has
+step : (n k : ℕ) → 1 ≤ k → (10 ≤ n → length (decimal (n / 10)) ≤ k) → length (decimal n) ≤ k + 1
+step n k h f = ⊎-elim (λ e. omega (arith, long-one n e)) (λ e. omega (arith, long-more n e, f e)) (low-or-high n)
+
+pub decimal-two : (n : ℕ) → n < 100 → length (decimal n) ≤ 2
+decimal-two n h = step n 1 (omega arith) (λ e. omega (arith, long-one (n / 10) (omega arith)))
+
+pub decimal-three : (n : ℕ) → n < 1000 → length (decimal n) ≤ 3
+decimal-three n h = step n 2 (omega arith) (λ e. decimal-two (n / 10) (omega arith))
+
+pub decimal-four : (n : ℕ) → n < 10000 → length (decimal n) ≤ 4
+decimal-four n h = step n 3 (omega arith) (λ e. decimal-three (n / 10) (omega arith))
+
+-- a number's only digit is stored, or its last digit after those of its tenth
+module _ (l : List ℕ) (at n : ℕ) where
+  pub stored-one : n < 10 → (at + 1 ≡ at + length (decimal n)) × (set l at (48 + n) ≡ sets l at (decimal n))
+  stored-one h = (omega (arith, long-one n h), ap (λ (xs : List ℕ). sets l at xs) (sym (decimal-one n h)))
+
+  module _ (l₁ : List ℕ) (m : ℕ) (some : 10 ≤ n) (e : l₁ ≡ sets l at (decimal (n / 10))) (p : m ≡ at + length (decimal (n / 10))) where
+    pub stored-more : (m + 1 ≡ at + length (decimal n)) × (set l₁ m (48 + n % 10) ≡ sets l at (decimal n))
+    stored-more =
+        let all = joined l l₁ (set l₁ m (48 + n % 10)) at m (decimal (n / 10)) ((48 + n % 10) ∷ []) e p refl in (
+          omega (arith, long-more n some),
+          all ∙ ap (λ (xs : List ℕ). sets l at xs) (sym (decimal-more n some)),
+        )
+
+    pub more-length : length l₁ ≡ length l
+    more-length = ap length e ∙ length-sets l at (decimal (n / 10))
+
+    pub more-room : n < 10000 → at + 4 ≤ length l → m < length l₁
+    more-room few room = omega (arith, more-length, decimal-three (n / 10) (omega arith))
