@@ -16,6 +16,7 @@ COUNT ?=
 VERSION = 0.1.0
 PREFIX ?= /usr/local
 LIBRARY = target/staticlib/libormsvelg.a
+BENCH = target/bin/bench
 C = -std=c11 -Wall -Wextra -Werror
 # Loops are aligned, so that no time hangs on where the linker happens to put a short one.
 CXXFLAGS = -std=c++20 -Wall -Wextra -Werror -O3 -falign-functions=64 -falign-loops=64
@@ -31,9 +32,10 @@ test:
 $(LIBRARY): $(PROVED)
 	rt staticlib ormsvelg
 
-build/run: host/run.c host/sheet.h include/ormsvelg.h tools/x86 $(LIBRARY)
-	@mkdir -p build
-	$(HOST) -o $@ host/run.c $(LIBRARY)
+# What rt says goes to standard error, so that a run prints the answer alone.
+$(BENCH): $(PROVED)
+	@rt check bench >&2
+	@touch $@
 
 COMMAND = host/ormsvelg.c host/save.h host/sheet.h host/words.h include/ormsvelg.h Makefile tools/x86 $(LIBRARY)
 
@@ -45,9 +47,9 @@ build/ormsvelg-sanitized: $(COMMAND)
 	@mkdir -p build
 	$(HOST) $(SANITIZED) -DVERSION='"$(VERSION)"' -o $@ host/ormsvelg.c $(LIBRARY)
 
-run: build/run
+run: $(BENCH)
 	@test -n "$(JOB)" || { echo "usage: make run JOB=FILE"; exit 2; }
-	@tools/x86 run build/run "$(JOB)" || [ $$? -eq 1 ]
+	@tools/x86 run $(BENCH) < "$(JOB)"
 
 read: build/ormsvelg
 	@test -n "$(JOB)" || { echo "usage: make read JOB=FILE"; exit 2; }

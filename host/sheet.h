@@ -1,4 +1,4 @@
-/* host/sheet.h: what the host programs share: a sheet from a file, its numbers, and a table as digits.
+/* host/sheet.h: what the command takes in: a sheet from a file, its numbers, and a table as digits.
  * The name `-` is standard input. A file is never read further than the byte that decides its outcome.
  */
 #ifndef HOST_SHEET_H
