@@ -7,7 +7,7 @@
 #   make install PREFIX=/usr/local    the command, its manual page, the library, its header and its pkg-config file
 #   make host-test                    the C tests over the static library, the command's and the installation's
 #   make compare SEED=1 COUNT=50000   random cases, so many of each call, against the independent second program
-#   make speed                        the library's times against plain C and C++, native
+#   make speed                        the library's times against plain C++, native
 
 SEED ?= 1
 # Without a count each call has its own.
@@ -110,23 +110,15 @@ compare: build/drive build/second/compare
 build/native/libormsvelg.a: $(PROVED) tools/native-archive
 	tools/native-archive ormsvelg $@
 
-build/native/%.o: speed/%.c $(wildcard speed/*.h) include/ormsvelg.h
-	@mkdir -p build/native
-	cc $(C) -O3 -Iinclude -c -o $@ $<
-
-build/native/%.o: speed/%.cpp $(wildcard speed/*.h)
+build/native/%.o: speed/%.cpp $(wildcard speed/*.h) include/ormsvelg.h
 	@mkdir -p build/native
 	g++ $(CXXFLAGS) -Iinclude -c -o $@ $<
 
-build/native/speed-read: $(addprefix build/native/,main.o sheets.o read.o check.o libormsvelg.a)
+build/native/speed: $(addprefix build/native/,main.o plain.o best.o families.o sheets.o judge.o libormsvelg.a)
 	g++ -o $@ $^
 
-build/native/speed-solve: $(addprefix build/native/,solve.o same.o best.o families.o judge.o read.o libormsvelg.a)
-	g++ -o $@ $^
-
-speed: build/native/speed-read build/native/speed-solve
-	build/native/speed-read
-	build/native/speed-solve
+speed: build/native/speed
+	build/native/speed
 
 clean:
 	rm -rf build target

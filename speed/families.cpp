@@ -235,3 +235,18 @@ std::vector<family> families()
     }
     return made;
 }
+
+std::vector<widening_pair> widenings()
+{
+    std::vector<widening_pair> made;
+    dice by = {2};
+    for (int job = 0; job < 8; job++) {
+        draft narrow = random_job(by, 12, 6, 256, false), wide = narrow;
+        for (uint32_t &seen : wide.seen)
+            seen |= by.part(0xFFF & ~seen, 2);
+        for (uint32_t &rule : wide.rules)
+            rule |= 1u << by.below(28);
+        made.push_back({sheet_of(narrow), sheet_of(wide)});
+    }
+    return made;
+}

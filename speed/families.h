@@ -16,4 +16,11 @@ struct family {
 
 std::vector<family> families();
 
+/* A job with tables, and one that asks no more: its cells see more wires, and each of its rules has more terms. */
+struct widening_pair {
+    std::vector<uint8_t> narrow, wide;
+};
+
+std::vector<widening_pair> widenings();
+
 #endif

@@ -4,7 +4,7 @@
  */
 #include "judge.h"
 
-#include "read.h"
+#include "plain.h"
 
 namespace {
 
@@ -81,7 +81,7 @@ bool tables_fit(const job &on, const uint8_t *a, const uint8_t *b)
 bool judge_answer(const uint8_t *sheet, size_t sheet_len, const uint8_t *answer, size_t answer_len)
 {
     job on;
-    if (plain_read_job(sheet, sheet_len, &on) != 0 || answer_len < 6)
+    if (plain_read_job(sheet, sheet_len, on) != 0 || answer_len < 6)
         return false;
     if (two(answer) == 0) {
         unsigned count = two(answer + 4);

@@ -12,7 +12,7 @@
 typedef uint64_t solver(const uint8_t *job, size_t job_len, uint8_t *answer, size_t answer_len);
 
 /* The library's algorithm, the same work the same way. */
-solver same_solve;
+solver plain_solve;
 
 /* The fastest way known to the same outcome. */
 solver best_solve;

@@ -1,4 +1,4 @@
-/* speed/sheets.c: makes the sheets that make speed times: jobs to read, and a job with tables that fit it.
+/* speed/sheets.cpp: makes the sheets that make speed times: jobs to read, and a job with tables that fit it.
  * The random rules come from a fixed seed, so that every run times the same sheets. It leans on nothing.
  */
 #include "sheets.h"

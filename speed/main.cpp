@@ -1,0 +1,225 @@
+/* speed/main.cpp: times the library, the same work in plain C++, and for the solver C++ at its best, in one run.
+ * They take turns, round by round, and each figure is the median of its rounds, for one call. A ratio is the library's
+ * time over the other's. A time counts only where all give the same outcome and right answers, so that comes first.
+ */
+#include <inttypes.h>
+#include <stdio.h>
+#include <string.h>
+
+#include "families.h"
+#include "judge.h"
+#include "ormsvelg.h"
+#include "plain.h"
+#include "sheets.h"
+#include "solve.h"
+#include "timing.h"
+
+namespace {
+
+constexpr int SIDES = 3, MOST_ROUNDS = 51, LEAST_ROUNDS = 5;
+constexpr double ROUND_NANOSECONDS = 3e6, ROW_NANOSECONDS = 2e9;
+
+const char *const names[SIDES] = {"library", "plain", "best"};
+
+using sheet = std::vector<uint8_t>;
+
+/* What a call is lent, and the code that it must give. */
+struct lent {
+    sheet job, wide, answer;
+    uint32_t code;
+};
+
+typedef uint64_t call(const lent &by, uint8_t *out);
+
+template <auto &read> uint64_t reads(const lent &by, uint8_t *)
+{
+    return read(by.job.data(), by.job.size());
+}
+
+template <auto &check> uint64_t checks(const lent &by, uint8_t *)
+{
+    return check(by.job.data(), by.job.size(), by.answer.data(), by.answer.size());
+}
+
+template <auto &solve> uint64_t solves(const lent &by, uint8_t *out)
+{
+    return solve(by.job.data(), by.job.size(), out, LONGEST_ANSWER);
+}
+
+template <auto &widen> uint64_t widens(const lent &by, uint8_t *out)
+{
+    return widen(by.job.data(), by.job.size(), by.wide.data(), by.wide.size(), by.answer.data(), by.answer.size(), out,
+                 LONGEST_ANSWER);
+}
+
+/* The same work on each side; a side that has nothing of its own is null. */
+struct work {
+    const char *name;
+    call *sides[SIDES];
+};
+
+const work reading = {"read", {reads<ormsvelg_read>, reads<plain_read>, nullptr}};
+const work checking = {"check", {checks<ormsvelg_check>, checks<plain_check>, nullptr}};
+const work solving = {"solve", {solves<ormsvelg_solve>, solves<plain_solve>, solves<best_solve>}};
+const work widening = {"widen", {widens<ormsvelg_widen>, widens<plain_widen>, nullptr}};
+
+/* A line of the table: what is timed, and what is only tried, for the same outcome. */
+struct line {
+    const work &of;
+    std::string name;
+    std::vector<lent> timed, tried;
+};
+
+volatile uint64_t sink;
+
+/* Whether an outcome is the library's: to the last byte, but for the walks, of which several may stand. */
+bool same_outcome(uint64_t outcome, const uint8_t *out, uint64_t library, const uint8_t *library_out)
+{
+    if (outcome % 256 == WALK)
+        return library % 256 == WALK;
+    return outcome == library && !memcmp(out, library_out, outcome >> 40);
+}
+
+/* Whether what was written, if anything, is an answer for the last job lent. */
+bool right(const lent &by, uint64_t outcome, const uint8_t *out)
+{
+    const sheet &job = by.wide.empty() ? by.job : by.wide;
+    return outcome >> 40 == 0 || judge_answer(job.data(), job.size(), out, outcome >> 40);
+}
+
+bool agree(const line &of, const lent &by)
+{
+    static uint8_t outs[SIDES][LONGEST_ANSWER];
+    uint64_t outcomes[SIDES];
+    for (int side = 0; side < SIDES && of.of.sides[side]; side++) {
+        outcomes[side] = of.of.sides[side](by, outs[side]);
+        if (outcomes[side] % 256 == by.code && right(by, outcomes[side], outs[side]) &&
+            same_outcome(outcomes[side], outs[side], outcomes[0], outs[0]))
+            continue;
+        printf("%s, %s: %s: outcome %016" PRIx64 ", library %016" PRIx64 ", wanted code %u, or the answer is wrong\n",
+               of.of.name, of.name.c_str(), names[side], outcomes[side], outcomes[0], (unsigned)by.code);
+        return false;
+    }
+    return true;
+}
+
+/* Nanoseconds of one call, as the mean over all that is timed, `times` times. */
+double time_round(call *called, const std::vector<lent> &timed, unsigned times)
+{
+    static uint8_t out[LONGEST_ANSWER];
+    uint64_t sum = 0;
+    double began = now();
+    for (unsigned time = 0; time < times; time++)
+        for (const lent &by : timed)
+            sum += called(by, out);
+    double took = now() - began;
+    sink = sum;
+    return took / times / (double)timed.size();
+}
+
+/* As many rounds as the line's time allows, within the two limits. */
+size_t rounds_within(double turn)
+{
+    double rounds = ROW_NANOSECONDS / turn;
+    return rounds > MOST_ROUNDS ? MOST_ROUNDS : rounds < LEAST_ROUNDS ? LEAST_ROUNDS : (size_t)rounds;
+}
+
+void compare(const line &of)
+{
+    double rounds[SIDES][MOST_ROUNDS], took[SIDES] = {}, turn = 0;
+    unsigned times[SIDES];
+    int sides = of.of.sides[SIDES - 1] ? SIDES : SIDES - 1;
+    for (int side = 0; side < sides; side++) {
+        double once = time_round(of.of.sides[side], of.timed, 1) * (double)of.timed.size();
+        times[side] = (unsigned)(ROUND_NANOSECONDS / once) + 1;
+        turn += times[side] * once;
+    }
+    size_t count = rounds_within(turn);
+    for (size_t round = 0; round < count; round++)
+        for (int side = 0; side < sides; side++)
+            rounds[side][round] = time_round(of.of.sides[side], of.timed, times[side]);
+    for (int side = 0; side < sides; side++)
+        took[side] = median(rounds[side], count) / 1e3;
+    printf("%-6s%-55s %11.3f %11.3f", of.of.name, of.name.c_str(), took[0], took[1]);
+    if (sides == SIDES)
+        printf(" %9.3f %9.2f %9.2f\n", took[2], took[0] / took[1], took[0] / took[2]);
+    else
+        printf(" %9s %9.2f %9s\n", "", took[0] / took[1], "");
+    fflush(stdout);
+}
+
+line read_line(const char *name, const sheet &job)
+{
+    return {reading, name, {{job, {}, {}, ORMSVELG_ACCEPTED}}, {{{job.begin(), job.end() - 1}, {}, {}, ORMSVELG_ENDS}}};
+}
+
+/* The tables fit. With A's row 0 turned they break a rule, or with B's row 255, and both say at which combination. */
+line check_line()
+{
+    sheet tables(LONGEST_ANSWER), job(ORMSVELG_LONGEST_JOB);
+    tables.resize(largest_tables(tables.data()));
+    job.resize(fitted_job(job.data(), tables.data()));
+    line made = {checking, "12 wires, 256 rules at 4096 combinations", {{job, {}, tables, ORMSVELG_TABLES}}, {}};
+    for (size_t row : {2, 515}) {
+        sheet turned = tables;
+        turned[row] ^= 1;
+        made.tried.push_back({job, {}, turned, ORMSVELG_BREAKS_RULE});
+    }
+    return made;
+}
+
+line solve_line(const family &of)
+{
+    line made = {solving, of.name, {}, {}};
+    for (const sheet &job : of.sheets) {
+        uint8_t out[LONGEST_ANSWER];
+        made.timed.push_back({job, {}, {}, (uint32_t)(best_solve(job.data(), job.size(), out, sizeof out) % 256)});
+    }
+    return made;
+}
+
+/* The other way round the widened job asks more: its cells see more. */
+line widen_line()
+{
+    line made = {widening, "12 wires, 6 seen each to 8 seen each, 256 rules", {}, {}};
+    for (const widening_pair &of : widenings()) {
+        sheet tables(LONGEST_ANSWER), wide(LONGEST_ANSWER);
+        tables.resize(best_solve(of.narrow.data(), of.narrow.size(), tables.data(), LONGEST_ANSWER) >> 40);
+        wide.resize(best_solve(of.wide.data(), of.wide.size(), wide.data(), LONGEST_ANSWER) >> 40);
+        made.timed.push_back({of.narrow, of.wide, tables, ORMSVELG_TABLES});
+        made.tried.push_back({of.wide, of.narrow, wide, ORMSVELG_ASKS_MORE});
+    }
+    return made;
+}
+
+std::vector<line> lines()
+{
+    sheet longest(ORMSVELG_LONGEST_JOB), ordinary(ORMSVELG_LONGEST_JOB);
+    longest.resize(longest_job(longest.data()));
+    ordinary.resize(ordinary_job(ordinary.data()));
+    /* The sheet of the papers' job J3. */
+    const sheet j3 = {2, 4, 7, 1, 0, 1, 1, 6, 0, 4, 0, 3, 4, 6, 4, 1, 2, 4,
+                      6, 3, 0, 2, 5, 3, 0, 2, 7, 3, 1, 3, 5, 3, 1, 3, 7};
+    std::vector<line> made = {read_line("longest sheet, 7457 bytes", longest),
+                              read_line("ordinary sheet, 291 bytes", ordinary), read_line("J3, 35 bytes", j3),
+                              check_line()};
+    for (const family &of : families())
+        made.push_back(solve_line(of));
+    made.push_back(widen_line());
+    return made;
+}
+
+}
+
+int main()
+{
+    printf("%-61s %11s %11s %9s %9s %9s\n", "microseconds of a call", names[0], names[1], names[2], "to plain", "to best");
+    for (const line &of : lines()) {
+        for (const std::vector<lent> *all : {&of.timed, &of.tried})
+            for (const lent &by : *all)
+                if (!agree(of, by))
+                    return 1;
+        compare(of);
+    }
+    return 0;
+}
