@@ -5,7 +5,7 @@
 #   make read JOB=FILE                what the command says of a job sheet
 #   make check JOB=FILE ANSWER=FILE   what the command says of an answer sheet for a job sheet
 #   make install PREFIX=/usr/local    the command, its manual page, the library, its header and its pkg-config file
-#   make host-test                    the C tests over the static library, the command's and the installation's
+#   make host-test                    the C tests over the static library, the command's, the bench program's and the installation's
 #   make compare SEED=1 COUNT=50000   random cases, so many of each call, against the independent second program
 #   make speed                        the library's times against plain C++, native
 
@@ -78,11 +78,12 @@ build/test-sanitized build/test_solve-sanitized build/test_widen-sanitized: buil
 	@mkdir -p build
 	$(HOST) $(SANITIZED) -o $@ host/$*.c $(LIBRARY)
 
-host-test: build/test build/test_solve build/test_widen build/ormsvelg
+host-test: build/test build/test_solve build/test_widen build/ormsvelg $(BENCH)
 	tools/x86 run build/test
 	tools/x86 run build/test_solve
 	tools/x86 run build/test_widen
 	host/test_command.sh build/ormsvelg
+	host/test_bench.sh $(BENCH) build/ormsvelg
 	host/test_install.sh
 ifeq ($(shell uname -m),x86_64)
 	$(MAKE) --no-print-directory host-test-sanitized
