@@ -9,14 +9,7 @@ usage='usage: host/test_bench.sh BENCH COMMAND'
 bench=${1:?$usage} command=${2:?$usage}
 folder=$(mktemp -d) || exit 2
 trap 'rm -rf "$folder"' EXIT
-checks=0 failures=0
-
-expect() { # NAME GOT WANTED
-    checks=$((checks + 1))
-    [ "$2" != "$3" ] || return 0
-    failures=$((failures + 1))
-    printf '%s\n  got:    %s\n  wanted: %s\n' "$1" "${2//$'\n'/$'\n'          }" "${3//$'\n'/$'\n'          }"
-}
+. host/checks.sh
 
 # The program's input is this function's. A stop in front of each status shows where the printed bytes end.
 prints() { # NAME LINES..
@@ -87,8 +80,4 @@ prints 'the longest job twice' 'refused 5 1 7457' < <(cat "$folder/longest" "$fo
 prints 'input without an end' 'refused 5 1 5' </dev/zero
 prints 'input in two parts' tables 'A 00' 'B 11' < <(head -c 5 examples/J2.job; sleep 0.2; tail -c +6 examples/J2.job)
 
-if [ "$failures" -ne 0 ]; then
-    echo "bench: $failures of $checks checks failed"
-    exit 1
-fi
-echo "bench: $checks checks passed"
+finish bench

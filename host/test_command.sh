@@ -9,16 +9,10 @@ cd "$(dirname "$(readlink -f "${BASH_SOURCE[0]}")")/.." || exit 2
 program=${1:?usage: host/test_command.sh PROGRAM}
 folder=$(mktemp -d) || exit 2
 trap 'chmod -R u+rwx "$folder"; rm -rf "$folder"' EXIT
-checks=0 failures=0 input=/dev/null
+input=/dev/null
+. host/checks.sh
 
 ormsvelg() { tools/x86 run "$program" "$@"; }
-
-expect() { # NAME GOT WANTED
-    checks=$((checks + 1))
-    [ "$2" != "$3" ] || return 0
-    failures=$((failures + 1))
-    printf '%s\n  got:    %s\n  wanted: %s\n' "$1" "${2//$'\n'/$'\n'          }" "${3//$'\n'/$'\n'          }"
-}
 
 # An outcome: its status and all its words, and nothing on standard error. The words before -- are lines.
 says() { # STATUS LINES -- ARGS
@@ -281,8 +275,4 @@ writes
 unwritable
 { bytes 00 00 00 00 01; for rule in {1..256}; do bytes 04 00 01 02 03; done; } >"$folder/many_rules"
 full_output
-if [ "$failures" -gt 0 ]; then
-    echo "command: $failures of $checks checks failed"
-    exit 1
-fi
-echo "command: $checks checks passed"
+finish command

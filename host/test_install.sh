@@ -7,14 +7,7 @@ set -u
 cd "$(dirname "$(readlink -f "${BASH_SOURCE[0]}")")/.." || exit 2
 folder=$(mktemp -d) || exit 2
 trap 'rm -rf "$folder"' EXIT
-checks=0 failures=0
-
-expect() { # NAME GOT WANTED
-    checks=$((checks + 1))
-    [ "$2" != "$3" ] || return 0
-    failures=$((failures + 1))
-    printf '%s\n  got:    %s\n  wanted: %s\n' "$1" "$2" "$3"
-}
+. host/checks.sh
 
 install_to() { # PREFIX DESTDIR
     MAKEFLAGS='' make --no-print-directory -s install PREFIX="$1" DESTDIR="$2" >"$folder/log" 2>&1
@@ -66,8 +59,4 @@ lists 'staged' "$folder/stage/usr/ormsvelg"
 expect 'the staged prefix' "$(sed -n 's/^prefix=//p' "$folder/stage/usr/ormsvelg/lib/pkgconfig/ormsvelg.pc")" /usr/ormsvelg
 expect 'installed twice' "$(install_to "$prefix" ''; lists again "$prefix")" ''
 
-if [ "$failures" -gt 0 ]; then
-    echo "install: $failures of $checks checks failed"
-    exit 1
-fi
-echo "install: $checks checks passed"
+finish install
