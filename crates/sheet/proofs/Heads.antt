@@ -8,12 +8,11 @@ use borrow.Author.Tests.{leb-true}
 use lib.Dec.{leb}
 use lib.ListN.{length}
 use Rattle.steps.specs.declared.Refusal.{Refusal}
-use Rattle.sheet.specs.declared.HeadRead.the-variants as headRead
 use Rattle.steps.specs.Step.{got, refused, pick}
 use Rattle.sheet.specs.Job.{Head}
 use Rattle.steps.specs.Bytes.{byte, word, within, count, wordCount, entries}
 use Rattle.sheet.specs.JobSheet.{countedMask, head, wireLimit, seenLimit, ruleLimit, pinLimit}
-use Rattle.sheet.specs.JobFound.{pinsPass, asHead}
+use Rattle.sheet.specs.JobFound.{pinsPass}
 use Rattle.steps.proofs.Entries.{apart, next-inv, got-inj, byte-next, entries-length}
 use Rattle.steps.proofs.Steps.{valueOf, through, through-not}
 
@@ -48,7 +47,7 @@ module _ (s : List ℕ) where
     stop₂ w h = rw (h₁, through-not (entries n pinLimit 0 s p) (λ es. n) w h)
 
     module _ (v q : ℕ) (h₂ : pinsPass n s p ≡ got v q) where
-      abbrev pinsOf : List ℕ
+      abbrev pub pinsOf : List ℕ
       pinsOf = valueOf [] (entries n pinLimit 0 s p)
 
       found₂ : entries n pinLimit 0 s p ≡ got pinsOf q
@@ -69,10 +68,9 @@ module _ (s : List ℕ) where
           unfolding head
           stop₅ w h = rw (h₁, found₂, h₃, h₄, h)
 
-          pub all : (k q₄ : ℕ) → wordCount ruleLimit s q₃ ≡ got k q₄
-              → headRead.Got (record { wires = n; «sees_a» = a; «sees_b» = b; rules = k; «pins_at» = p }) q₄ ≡ asHead (head s 0)
+          pub all : (k q₄ : ℕ) → wordCount ruleLimit s q₃ ≡ got k q₄ → head s 0 ≡ got (record { wires = n; pins = pinsOf; seesA = a; seesB = b; count = k }) q₄
           unfolding head
-          all k q₄ h = rw (h₁, found₂, h₃, h₄, h, count-bounds wireLimit s 0 n p h₁ .1)
+          all k q₄ h = rw (h₁, found₂, h₃, h₄, h)
 
 -- what the sections that were found are like
 pub head-facts : (s : List ℕ) (h : Head) (at : ℕ) → head s 0 ≡ got h at → (h .wires ≤ wireLimit) × (h .count ≤ ruleLimit) × (length (h .pins) ≡ h .wires)

@@ -1,40 +1,27 @@
 -- The whole sheet: the head was refused or found, then the rules, then the end. Assumes nothing.
 use mathlib.Core.Path.{_≡_, refl, sym, ap, _∙_}
 use mathlib.Core.List.{List, []}
-use Prim.Native.Nat.{ℕ, zero, suc, _+_, _*_, _≤_}
+use Prim.Native.Nat.{ℕ, zero, suc}
 use native.Mathlib.Omega.{arith}
 use lib.ListN.{length}
 use Rattle.steps.specs.declared.Refusal.{Refusal}
 use Rattle.sheet.specs.declared.JobHead.{JobHead}
-use Rattle.sheet.specs.declared.HeadRead.{HeadRead}
-use Rattle.sheet.specs.declared.HeadRead.the-variants as headRead
 use Rattle.sheet.specs.declared.JobRead.{JobRead}
 use Rattle.sheet.specs.declared.JobRead.the-variants as jobRead
-use Rattle.steps.specs.Step.{Step, got, refused}
+use Rattle.steps.specs.Step.{got, refused}
 use Rattle.sheet.specs.Job.{Head, Verdict, accepted, rejected}
 use Rattle.steps.specs.Outcome.{success, refusedJob}
 use Rattle.sheet.specs.JobSheet.{outcomeOf, readOutcome}
 use Rattle.steps.specs.Bytes.{end}
-use Rattle.sheet.specs.JobSheet.{countedMask, rules, head, job, readJob, termsOf, wireLimit, ruleLimit}
-use Rattle.sheet.specs.JobFound.{headOf, asHead, asJob, whyHeadOf, rulesPass, kept, keptRules}
+use Rattle.sheet.specs.JobSheet.{countedMask, rules, head, job, readJob, termsOf}
+use Rattle.sheet.specs.JobFound.{asJob, rulesPass, kept, keptRules}
 use Rattle.steps.proofs.Entries.{next-inv, got-inj}
 use Rattle.steps.proofs.Steps.{valueOf, through, through-not}
 use Rattle.sheet.proofs.Heads.{head-facts}
 
-apart-heads : (x : HeadRead) (h : JobHead) (n : ℕ) (w : Refusal) → x ≡ headRead.Got h n → x ≡ headRead.Refused w → ⊥
-apart-heads x h n w p q = let z : _≡_ {A = ℕ} 0 1 = cc in omega arith
-
-pub head-found : (t : Step Head) (x : HeadRead) (h : JobHead) (at : ℕ) → x ≡ asHead t → x ≡ headRead.Got h at
-    → (H : Head) × (t ≡ got H at) × (h ≡ headOf H)
-head-found (got H n) x h at e p = let q : n ≡ at = cc in (H, ap (got H) q, cc)
-head-found (refused w) x h at e p = absurd (apart-heads x h at w p e)
-
-pub head-faulty : (t : Step Head) (x : HeadRead) (w : Refusal) → x ≡ asHead t → x ≡ headRead.Refused w → t ≡ refused w
-head-faulty (got H n) x w e p = absurd (apart-heads x _ n w e p)
-head-faulty (refused w′) x w e p = cc
-
-pub handed-head : (x : HeadRead) (w w′ : Refusal) → w′ ≡ whyHeadOf x → x ≡ headRead.Refused w → w′ ≡ w
-handed-head x w w′ e p = e ∙ ap whyHeadOf p
+-- a head in numbers
+abbrev pub headOf : Head → JobHead
+headOf h = record { wires = h .wires; «sees_a» = h .seesA; «sees_b» = h .seesB; rules = h .count; «pins_at» = 1 }
 
 -- as many rules as were asked for
 pub rules-length : (n terms : ℕ) (s : List ℕ) (at : ℕ) (rs : List ℕ) (m : ℕ) → rules n terms s at ≡ got rs m → length rs ≡ n
@@ -54,41 +41,34 @@ module _ (s : List ℕ) where
   unfolding keptRules
   none-kept w h = rw h
 
-  -- h and at are what the reader found, and H the definitions' head
-  module _ (h : JobHead) (at : ℕ) (H : Head) (f : head s 0 ≡ got H at) (same : h ≡ headOf H) where
-    pub bounds : (h .wires ≤ wireLimit) × (h .rules ≤ ruleLimit)
-    bounds = let t = head-facts s H at f in (rw same (t .0), rw same (t .1))
-
-    pub some-kept : kept (h .rules) (2 * h .wires + 4) s at ≡ keptRules s
+  module _ (H : Head) (at : ℕ) (f : head s 0 ≡ got H at) where
+    pub some-kept : kept (H .count) (termsOf (H .wires)) s at ≡ keptRules s
     unfolding keptRules
-    some-kept = rw (same, f)
+    some-kept = rw f
 
-    same-rules : rulesPass (h .rules) (2 * h .wires + 4) s at ≡ rulesPass (H .count) (termsOf (H .wires)) s at
-    same-rules = rw same
-
-    pub no-rules : (w : Refusal) → rulesPass (h .rules) (2 * h .wires + 4) s at ≡ refused w → readJob s ≡ rejected w
+    pub no-rules : (w : Refusal) → rulesPass (H .count) (termsOf (H .wires)) s at ≡ refused w → readJob s ≡ rejected w
     unfolding readJob job rulesPass
-    no-rules w r = rw (f, through-not (rules (H .count) (termsOf (H .wires)) s at) (λ rs. H .count) w (sym same-rules ∙ r))
+    no-rules w r = rw (f, through-not (rules (H .count) (termsOf (H .wires)) s at) (λ rs. H .count) w r)
 
-    module _ (v q : ℕ) (r : rulesPass (h .rules) (2 * h .wires + 4) s at ≡ got v q) where
+    module _ (v q : ℕ) (r : rulesPass (H .count) (termsOf (H .wires)) s at ≡ got v q) where
       abbrev rs : List ℕ
       rs = valueOf [] (rules (H .count) (termsOf (H .wires)) s at)
 
       found-rules : rules (H .count) (termsOf (H .wires)) s at ≡ got rs q
       unfolding rulesPass
-      found-rules = through [] (rules (H .count) (termsOf (H .wires)) s at) (H .count) v q (sym same-rules ∙ r)
+      found-rules = through [] (rules (H .count) (termsOf (H .wires)) s at) (H .count) v q r
 
       pub no-end : (w : Refusal) → end s q ≡ refused w → readJob s ≡ rejected w
       unfolding readJob job
       no-end w z = rw (f, found-rules, z)
 
-      pub all : (u m : ℕ) → end s q ≡ got u m → jobRead.Accepted h ≡ asJob (readJob s)
+      pub all : (u m : ℕ) → end s q ≡ got u m → jobRead.Accepted (headOf H) ≡ asJob (readJob s)
       unfolding readJob job
       all u m z =
           let wires = head-facts s H at f .2 in
           let count = rules-length (H .count) (termsOf (H .wires)) s at rs q found-rules in
           rw (f, found-rules, z)
-          (ap jobRead.Accepted (same ∙ (λ i. record { wires = sym wires i; «sees_a» = H .seesA; «sees_b» = H .seesB; rules = sym count i; «pins_at» = 1 })))
+          (ap jobRead.Accepted (λ i. record { wires = sym wires i; «sees_a» = H .seesA; «sees_b» = H .seesB; rules = sym count i; «pins_at» = 1 }))
 
 -- what a sheet that was taken apart comes to
 apart-jobs : (x : JobRead) (h : JobHead) (w : Refusal) → x ≡ jobRead.Accepted h → x ≡ jobRead.Refused w → ⊥

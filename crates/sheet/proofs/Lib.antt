@@ -6,3 +6,6 @@ pub mod Laws
 pub mod Ones
 pub mod Length
 pub mod Longest
+pub mod Walks
+pub mod Readers
+pub mod Chains

@@ -2,23 +2,13 @@
 use Prim.Native.Nat.{ℕ, zero, suc}
 use mathlib.Core.List.{List, [], _∷_}
 use lib.ListN.{length}
-use Rattle.steps.specs.declared.Refusal.{Refusal}
-use Rattle.steps.specs.declared.Refusal.the-variants.{LeftOver}
-use Rattle.steps.specs.declared.Read.{Read}
-use Rattle.steps.specs.declared.Read.the-variants.{Got, Refused}
 use Rattle.sheet.specs.declared.JobHead.{JobHead}
-use Rattle.sheet.specs.declared.HeadRead.{HeadRead}
-use Rattle.sheet.specs.declared.HeadRead.the-variants as headRead
 use Rattle.sheet.specs.declared.JobRead.{JobRead}
 use Rattle.sheet.specs.declared.JobRead.the-variants as jobRead
 use Rattle.steps.specs.Step.{Step, got, refused, Reading, _>>=_, give}
 use Rattle.sheet.specs.Job.{Job, Head, Verdict, accepted, rejected}
 use Rattle.steps.specs.Bytes.{entries}
 use Rattle.sheet.specs.JobSheet.{countedMask, rules, head, termsOf, pinLimit}
-
-abbrev pub whyHeadOf : HeadRead → Refusal
-whyHeadOf (headRead.Got h at) = LeftOver at
-whyHeadOf (headRead.Refused w) = w
 
 -- n pins, of which nothing is kept
 unfoldable pub pinsPass : (n : ℕ) → Reading ℕ
@@ -32,15 +22,7 @@ rulesPass n terms = do
   rs ← rules n terms
   give n
 
--- the pins stay in the sheet, from place 1 on
-abbrev pub headOf : Head → JobHead
-headOf h = record { wires = h .wires; «sees_a» = h .seesA; «sees_b» = h .seesB; rules = h .count; «pins_at» = 1 }
-
-abbrev pub asHead : Step Head → HeadRead
-asHead (got h at) = headRead.Got (headOf h) at
-asHead (refused w) = headRead.Refused w
-
--- a job in numbers
+-- a job in numbers. The pins stay in the sheet, from place 1 on
 abbrev pub jobHead : Job → JobHead
 jobHead j = record { wires = length (j .pins); «sees_a» = j .seesA; «sees_b» = j .seesB; rules = length (j .rules); «pins_at» = 1 }
 

@@ -1,5 +1,6 @@
 // The job sheet, section by section (document 01, "Job sheet"). The pins stay in the sheet; the rules go to an array that
-// is scratch of the caller's. The definition, readJob, stands in specs/JobSheet. Leans on the steps of `steps`.
+// is scratch of the caller's. Sections are functions on the sheet and a place; read_job chains them with a Reader, which
+// holds both. The definition, readJob, stands in specs/JobSheet. Leans on the steps of `steps`.
 use steps::Outcome;
 use steps::Read;
 use steps::Refusal;
@@ -13,9 +14,10 @@ use steps::why;
 ghost use mathlib.Core.Path.{_≡_};
 ghost use Prim.Native.Nat.{_≤_};
 ghost use lib.Seq.{sets};
-ghost use Rattle.steps.specs.Found.{asRead};
-ghost use Rattle.sheet.specs.JobSheet.{mask, countedMask, head, readJob, ruleLimit, readOutcome};
-ghost use Rattle.sheet.specs.JobFound.{whyHeadOf, pinsPass, rulesPass, asHead, asJob, kept, keptRules};
+ghost use Rattle.steps.specs.Bytes.{count, wordCount, end};
+ghost use Rattle.steps.specs.Found.{asRead, whyOf};
+ghost use Rattle.sheet.specs.JobSheet.{mask, countedMask, termsOf, readJob, wireLimit, ruleLimit, readOutcome};
+ghost use Rattle.sheet.specs.JobFound.{pinsPass, rulesPass, asJob, kept, keptRules};
 
 // A job in numbers: the pins stay in the sheet, from pins_at on, and the rules go to an array beside it.
 pub struct JobHead {
@@ -24,12 +26,6 @@ pub struct JobHead {
     pub sees_b: u32,
     pub rules: u32,
     pub pins_at: usize,
-}
-
-// What the sections before the rules come to.
-pub enum HeadRead {
-    Got(JobHead, usize),
-    Refused(Refusal),
 }
 
 // What a sheet comes to.
@@ -123,69 +119,115 @@ pub fn read_rules(sheet: &[u8], at: usize, count: u32, terms: u32, rules: &mut [
     Read::Got(count, place)
 }
 
-pub fn why_head(x: HeadRead) -> Refusal
-    ensures { λ r. ⌜ r ≡ whyHeadOf x ⌝ }
+// How many terms a job with so many wires has.
+fn term_limit(wires: u32) -> u32
+    requires { ⌜ wires ≤ wireLimit ⌝ }
+    ensures { λ r. ⌜ r ≡ termsOf wires ⌝ }
 {
-    match x {
-        HeadRead::Got(_, at) => Refusal::LeftOver(at),
-        HeadRead::Refused(w) => w,
+    2 * wires + 4
+}
+
+// While reading, the sheet and the place reached travel together. Each function over a Reader takes it apart and calls
+// the one on the sheet and the place; a step answers the place after it, and `moved` takes the Reader there.
+struct Reader<'a> {
+    sheet: &'a [u8],
+    place: usize,
+}
+
+// A sheet at its first byte.
+fn opened<'a>(sheet: &'a [u8]) -> Reader<'a>
+    ensures { λ r. ⌜ (r .sheet ≡ sheet .entry) × (r .place ≡ 0) ⌝ }
+{
+    Reader { sheet, place: 0 }
+}
+
+// The same sheet, at the place reached.
+fn moved<'a>(r: Reader<'a>, place: usize) -> Reader<'a>
+    ensures { λ q. ⌜ (q .sheet ≡ r .entry .sheet) × (q .place ≡ place) ⌝ }
+{
+    Reader {
+        sheet: r.sheet,
+        place,
     }
 }
 
-// The sections before the rules.
-pub fn read_head(sheet: &[u8]) -> HeadRead
-    ensures { λ r. ⌜ r ≡ asHead (head (now (sheet .entry)) 0) ⌝ }
+// A count of one byte, at most `most`.
+fn take_count<'a>(r: Reader<'a>, most: u32) -> Read
+    ensures { λ x. ⌜ x ≡ asRead (count most (now (r .entry .sheet)) (r .entry .place)) ⌝ }
 {
-    let first = read_count(sheet, 0, WIRE_LIMIT);
-    let Read::Got(wires, pins_at) = first else {
-        return HeadRead::Refused(why(first));
-    };
-    let pins = check_pins(sheet, pins_at, wires);
-    let Read::Got(_, at_a) = pins else {
-        return HeadRead::Refused(why(pins));
-    };
-    let a = read_counted_set(sheet, at_a, SEEN_LIMIT, wires);
-    let Read::Got(sees_a, at_b) = a else {
-        return HeadRead::Refused(why(a));
-    };
-    let b = read_counted_set(sheet, at_b, SEEN_LIMIT, wires);
-    let Read::Got(sees_b, at_rules) = b else {
-        return HeadRead::Refused(why(b));
-    };
-    let counted = read_word_count(sheet, at_rules, RULE_LIMIT);
-    let Read::Got(rules, next) = counted else {
-        return HeadRead::Refused(why(counted));
-    };
-    HeadRead::Got(
-        JobHead {
-            wires,
-            sees_a,
-            sees_b,
-            rules,
-            pins_at,
-        },
-        next,
-    )
+    read_count(r.sheet, r.place, most)
 }
 
-// The whole sheet. The rules go to the front of `rules`.
+// A count of two bytes, at most `most`.
+fn take_word_count<'a>(r: Reader<'a>, most: u32) -> Read
+    ensures { λ x. ⌜ x ≡ asRead (wordCount most (now (r .entry .sheet)) (r .entry .place)) ⌝ }
+{
+    read_word_count(r.sheet, r.place, most)
+}
+
+// A set after its count.
+fn take_set<'a>(r: Reader<'a>, most: u32, limit: u32) -> Read
+    requires { ⌜ limit ≤ 32 ⌝ }
+    ensures { λ x. ⌜ x ≡ asRead (countedMask most limit (now (r .entry .sheet)) (r .entry .place)) ⌝ }
+{
+    read_counted_set(r.sheet, r.place, most, limit)
+}
+
+// Nothing follows.
+fn at_end<'a>(r: Reader<'a>) -> Read
+    ensures { λ x. ⌜ x ≡ asRead (end (now (r .entry .sheet)) (r .entry .place)) ⌝ }
+{
+    read_end(r.sheet, r.place)
+}
+
+// The refusal of a step, handed up.
+fn stopped(x: Read) -> JobRead
+    ensures { λ r. ⌜ r ≡ JobRead.Refused (whyOf x) ⌝ }
+{
+    JobRead::Refused(why(x))
+}
+
+// The whole sheet, step by step. The rules go to the front of `rules`.
 pub fn read_job(sheet: &[u8], rules: &mut [u32; RULES]) -> JobRead
     ensures { λ r. ⌜ r ≡ asJob (readJob (now (sheet .entry))) ⌝ }
     ensures { λ r. ⌜ now (rules .exit) ≡ sets (now (rules .entry)) 0 (keptRules (now (sheet .entry))) ⌝ }
 {
-    let head = read_head(sheet);
-    let HeadRead::Got(h, at) = head else {
-        return JobRead::Refused(why_head(head));
+    let reader = opened(sheet);
+    let first = take_count(reader, WIRE_LIMIT);
+    let Read::Got(wires, pins_at) = first else {
+        return stopped(first);
     };
-    let stored = read_rules(sheet, at, h.rules, 2 * h.wires + 4, rules);
-    let Read::Got(_, next) = stored else {
-        return JobRead::Refused(why(stored));
+    let pins = check_pins(sheet, pins_at, wires);
+    let Read::Got(_, at_a) = pins else {
+        return stopped(pins);
     };
-    let ended = read_end(sheet, next);
+    let a = take_set(moved(reader, at_a), SEEN_LIMIT, wires);
+    let Read::Got(sees_a, at_b) = a else {
+        return stopped(a);
+    };
+    let b = take_set(moved(reader, at_b), SEEN_LIMIT, wires);
+    let Read::Got(sees_b, at_count) = b else {
+        return stopped(b);
+    };
+    let counted = take_word_count(moved(reader, at_count), RULE_LIMIT);
+    let Read::Got(count, at_rules) = counted else {
+        return stopped(counted);
+    };
+    let stored = read_rules(sheet, at_rules, count, term_limit(wires), rules);
+    let Read::Got(_, last) = stored else {
+        return stopped(stored);
+    };
+    let ended = at_end(moved(reader, last));
     let Read::Got(_, _) = ended else {
-        return JobRead::Refused(why(ended));
+        return stopped(ended);
     };
-    JobRead::Accepted(h)
+    JobRead::Accepted(JobHead {
+        wires,
+        sees_a,
+        sees_b,
+        rules: count,
+        pins_at,
+    })
 }
 
 // The reader: the outcome of a job sheet, for every string of bytes. The rules go to scratch of its own.
