@@ -8,4 +8,5 @@ pub mod Length
 pub mod Longest
 pub mod Walks
 pub mod Readers
+pub mod Counts
 pub mod Chains

@@ -67,8 +67,9 @@ use Rattle.steps.proofs.Steps.{found, faulty}
 use Rattle.sheet.proofs.Heads.{count-bounds, word-count-bounds, pinsOf, stop₁, stop₂, stop₃, stop₄, stop₅, all as all-head}
 use Rattle.sheet.proofs.Jobs.{no-head, none-kept, some-kept, no-rules, no-end, all}
 use Rattle.sheet.proofs.Walks.{held, turns-back, says-two, backwards, cells, frees-all}
-use Rattle.sheet.proofs.Readers.{sheetVal, sheet-twice}
-use Rattle.sheet.proofs.Chains.{Fits, IsJob, answer, Opened, Moved, TakeCount, TakeWordCount, TakeSet, AtEnd, CheckPins, TermLimit, Stopped, Tok, Own, at, to-stopped, opening, moving, counting, word-counting, set-taking, ending, pin-checking, limiting, stopping, stepped, tag, got-two, got-place, got-none}
+use Rattle.sheet.proofs.Readers.{at, sheetVal, Tok, Sheet, sheet-twice}
+use Rattle.sheet.proofs.Counts.{Take}
+use Rattle.sheet.proofs.Chains.{Fits, IsJob, answer, Opened, Moved, TakeSet, AtEnd, CheckPins, TermLimit, Stopped, to-stopped, opening, moving, counting, set-taking, ending, pin-checking, limiting, stopping, stepped, tag, got-two, got-place, got-none}
 use Rattle.sheet.proofs.opened.Symbol as opened-def
 use Rattle.sheet.proofs.opened.Symbol.{name as #sheet·opened}
 use Rattle.sheet.proofs.opened.Met as opened-thm
@@ -129,11 +130,8 @@ module _ {M : Type 1} (𝓤 : URA M) (H : Heap 𝓤) (A : Atoms 𝓤) (W : Given
   abbrev x : RefT (List ℕ)
   x = record { ptr = (b, o); name = γ; now = ys }
 
-  abbrev Token : Item 𝓤
-  Token = Tok 𝓤 H A W mem run κ q s
-
   abbrev Owned : Item 𝓤
-  Owned = Own 𝓤 H A W mem run κ q s
+  Owned = ‵ (Sheet κ s)
 
   abbrev s′ : List ℕ
   s′ = now s
@@ -152,7 +150,7 @@ module _ {M : Type 1} (𝓤 : URA M) (H : Heap 𝓤) (A : Atoms 𝓤) (W : Given
   Exit = walkOf 𝓤 H A read-job.ended stayed (read-job.clauses 𝓤 H A mem run) .post (((κ, (κ′, tt)), (q, (q′, tt)), tt, (s, (x, tt)), vals), tt)
 
   -- what the parameters own, apart
-  enters : ent 𝓤 (onEntry 𝓤 H A read-job.signature (κ, (κ′, tt)) (q, (q′, tt)) (s, (x, tt)) vals) (mean 𝓤 H A (Token ⊛ Owned ⊛ Lent))
+  enters : ent 𝓤 (onEntry 𝓤 H A read-job.signature (κ, (κ′, tt)) (q, (q′, tt)) (s, (x, tt)) vals) (mean 𝓤 H A (Tok κ q ⊛ Owned ⊛ Lent))
   enters =
       qed W ((‵ (flft κ q) ⊛ ‵ (flft κ′ q′) ⊛ ‵ ftrue) ∷ ‵ (owns (ShrSlice (named 0) κ u8 ∷ MutRef (named 1) κ′ Rules ∷ []) (s, (x, tt)) vals) ∷ []) ∵
       split3 ! $ move ! (3 ∷ []) $ fsplit ! $ move ! (1 ∷ []) $ fsplit ! $
@@ -165,9 +163,9 @@ module _ {M : Type 1} (𝓤 : URA M) (H : Heap 𝓤) (A : Atoms 𝓤) (W : Given
       qed W (Lent ∷ []) ∵ split ! $ move ! (1 ∷ []) $ fsplit3 ! $ move ! (1 ∷ []) $
       use1 W (‵ (fres γ (Rules .coded .code ys))) (W .names .obs-res γ (Rules .coded .code ys)) $ keep ! (3 ∷ 0 ∷ []) $ done !
 
-  exits : (r : JobRead) → IsJob r → (zs : List ℕ) → (r ≡ asJob (readJob s′)) × (zs ≡ sets ys 0 (keptRules s′)) → ent 𝓤 (mean 𝓤 H A (Token ⊛ Owned ⊛ Gone zs)) (Exit (J′.lowered r))
+  exits : (r : JobRead) → IsJob r → (zs : List ℕ) → (r ≡ asJob (readJob s′)) × (zs ≡ sets ys 0 (keptRules s′)) → ent 𝓤 (mean 𝓤 H A (Tok κ q ⊛ Owned ⊛ Gone zs)) (Exit (J′.lowered r))
   exits r is zs e =
-      qed W ((Token ⊛ Owned ⊛ Gone zs) ∷ []) ∵
+      qed W ((Tok κ q ⊛ Owned ⊛ Gone zs) ∷ []) ∵
       suffices ! _ (ends-at 𝓤 H A read-job.ended stayed (read-job.clauses 𝓤 H A mem run) W (((κ, (κ′, tt)), (q, (q′, tt)), tt, (s, (x, tt)), vals), tt) (J′.lowered r) r (tt, (zs, tt)) (tt, (tt, tt))) $ says-two ! (e .0) (e .1) $
       split3 ! $ split ! $ move ! (3 ∷ []) $ split ! $
       -- [the token of rules; its last list; the token of sheet; true; what sheet owns]
@@ -182,9 +180,9 @@ module _ {M : Type 1} (𝓤 : URA M) (H : Heap 𝓤) (A : Atoms 𝓤) (W : Given
     -- zs is what is left of the rules, and os what the locals hold, but for the result
     refusing : {l : ℕ} {L : List (Ty × ℕ)} {R : Item 𝓤} {a : Body} {c : Operand} → Triple 𝓤 (C #sheet·stopped) (Stopped 𝓤 H A mem run) → (os : List (Option Val)) (w : Refusal) → Fits (Refused w)
         → (zs : List ℕ) → ent 𝓤 (mean 𝓤 H A R) (mean 𝓤 H A (Gone zs)) → (jobRead.Refused w ≡ asJob (readJob s′)) × (zs ≡ sets ys 0 (keptRules s′))
-        → Opd (Go {0}) W (Token ∷ Owned ∷ R ∷ cells ((J′.mir, l) ∷ L) (empty ∷ os)) ((J′.mir, l) ∷ L) c (vint w8 1)
-        → Opds (Go {0}) W (raw (Stopped 𝓤 H A mem run .pre (to-stopped 𝓤 H A W mem run κ q s w)) ∷ Token ∷ Owned ∷ R ∷ cells ((J′.mir, l) ∷ L) (empty ∷ os)) ((J′.mir, l) ∷ L) xs (S′.lowered (Refused w) ∷ [])
-        → Sq W (Token ∷ Owned ∷ R ∷ cells ((J′.mir, l) ∷ L) (empty ∷ os))
+        → Opd (Go {0}) W (Tok κ q ∷ Owned ∷ R ∷ cells ((J′.mir, l) ∷ L) (empty ∷ os)) ((J′.mir, l) ∷ L) c (vint w8 1)
+        → Opds (Go {0}) W (raw (Stopped 𝓤 H A mem run .pre (to-stopped 𝓤 H A W mem run κ q s w)) ∷ Tok κ q ∷ Owned ∷ R ∷ cells ((J′.mir, l) ∷ L) (empty ∷ os)) ((J′.mir, l) ∷ L) xs (S′.lowered (Refused w) ∷ [])
+        → Sq W (Tok κ q ∷ Owned ∷ R ∷ cells ((J′.mir, l) ∷ L) (empty ∷ os))
         (runs C Λ ((J′.mir, l) ∷ L) (seq (switch c (arm (0 ∷ []) a (arm (1 ∷ []) (seq (call #sheet·stopped xs (place 0 [])) return) noDefault))) rest) (atRet ((J′.mir, l) ∷ L) Exit))
     refusing {l} {L} known os w is zs given-up e tag passed =
         turns-back ! tag $ stopping 𝓤 H A W mem run κ q s fm known w is passed (λ is′. land ! (from ! (stop !)) (init ! 3 refl (EL.lawful J.the-type J′.the-laws 𝓤 H A W tt .typed (jobRead.Refused w) _ is′ .0)) $
@@ -197,8 +195,8 @@ module _ {M : Type 1} (𝓤 : URA M) (H : Heap 𝓤) (A : Atoms 𝓤) (W : Given
   module _ {C : Calls 𝓤 H} {Λ : Loops 𝓤 H} (fm : FmC 𝓤 H (W .laws) C) {Γ : List (Item 𝓤)} {E : Env 𝓤 H} {Q : Post 𝓤 H} {d : Place} {rest : Body} {xs : List Operand} where
     storing : Triple 𝓤 (C #sheet·read-rules) (ReadRules 𝓤 H A mem run) → (p k n : ℕ) → p < 2 ^ 64 → k < 2 ^ 32 → termsOf n < 2 ^ 32 → (k ≤ ruleLimit) × (termsOf n ≤ 32)
         → Opds (Go {0}) W (raw (ReadRules 𝓤 H A mem run .pre (to-rules p k n)) ∷ Owned ∷ Γ) E xs (ReadRules 𝓤 H A mem run .args (to-rules p k n))
-        → ((zs : List ℕ) → zs ≡ sets ys 0 (kept k (termsOf n) s′ p) → Fits (asRead (rulesPass k (termsOf n) s′ p)) → Sq W (Token ∷ Owned ∷ Gone zs ∷ Γ) (lands C Λ E d (S′.lowered (asRead (rulesPass k (termsOf n) s′ p))) rest Q))
-        → Sq W (Token ∷ Owned ∷ Lent ∷ Γ) (runs C Λ E (seq (call #sheet·read-rules xs d) rest) Q)
+        → ((zs : List ℕ) → zs ≡ sets ys 0 (kept k (termsOf n) s′ p) → Fits (asRead (rulesPass k (termsOf n) s′ p)) → Sq W (Tok κ q ∷ Owned ∷ Gone zs ∷ Γ) (lands C Λ E d (S′.lowered (asRead (rulesPass k (termsOf n) s′ p))) rest Q))
+        → Sq W (Tok κ q ∷ Owned ∷ Lent ∷ Γ) (runs C Λ E (seq (call #sheet·read-rules xs d) rest) Q)
     storing known p k n p-fits k-fits n-fits low os next =
         move ! (1 ∷ []) $ use1 W (Owned ⊛ Owned) (sheet-twice κ 𝓤 H A W s) $ split ! $ move ! (2 ∷ 0 ∷ 3 ∷ []) $ group ! 3 $
         use1 W (raw (ReadRules 𝓤 H A mem run .pre (to-rules p k n))) asks $ calls-at ! fm (ReadRules 𝓤 H A mem run) known (to-rules p k n) os (λ u.
@@ -212,17 +210,17 @@ module _ {M : Type 1} (𝓤 : URA M) (H : Heap 𝓤) (A : Atoms 𝓤) (W : Given
         move ! (1 ∷ 3 ∷ []) $ join ! $ move ! (1 ∷ 2 ∷ []) $ join ! $ move ! (2 ∷ []) $ drop ! $ move ! (0 ∷ 2 ∷ []) $
         answer 𝓤 H A W mem run κ q s r u is e (λ (v : Val). lands C Λ E d v rest Q) (next (ws .1 .1 .1 .1 .0) e′)))))))
       where
-        asks : ent 𝓤 (mean 𝓤 H A (Token ⊛ Owned ⊛ Lent)) (ReadRules 𝓤 H A mem run .pre (to-rules p k n))
+        asks : ent 𝓤 (mean 𝓤 H A (Tok κ q ⊛ Owned ⊛ Lent)) (ReadRules 𝓤 H A mem run .pre (to-rules p k n))
         asks =
-            qed W ((Token ⊛ Owned ⊛ Lent) ∷ []) ∵ says ! low $ split3 ! $ split ! $ move ! (3 ∷ []) $ split ! $
+            qed W ((Tok κ q ⊛ Owned ⊛ Lent) ∷ []) ∵ says ! low $ split3 ! $ split ! $ move ! (3 ∷ []) $ split ! $
             -- [the token of rules; what it owns; the token of sheet; true; what sheet owns]
             move ! (0 ∷ 3 ∷ []) $ join ! $ move ! (2 ∷ 0 ∷ []) $ join ! $ frame ! $ nothing ! $ move ! (1 ∷ 0 ∷ []) $ fjoin ! $
             owned ! u32 (Is u32) (uint-makes 𝓤 H A W w32) (termsOf n) _ (refl, n-fits) $ fjoin ! $ owned ! u32 (Is u32) (uint-makes 𝓤 H A W w32) k _ (refl, k-fits) $ fjoin ! $
             owned ! usize (Is usize) (uint-makes 𝓤 H A W w64) p _ (refl, p-fits) $ fjoin ! $ move ! (1 ∷ 0 ∷ []) $ fjoin ! $ done !
 
   module _ (C : Calls 𝓤 H) (Λ : Loops 𝓤 H) (fm : FmC 𝓤 H (W .laws) C)
-      (known-opened : Triple 𝓤 (C #sheet·opened) (Opened 𝓤 H A mem run)) (known-moved : Triple 𝓤 (C #sheet·moved) (Moved 𝓤 H A mem run)) (known-count : Triple 𝓤 (C #sheet·take-count) (TakeCount 𝓤 H A mem run))
-      (known-words : Triple 𝓤 (C #sheet·take-word-count) (TakeWordCount 𝓤 H A mem run)) (known-set : Triple 𝓤 (C #sheet·take-set) (TakeSet 𝓤 H A mem run)) (known-end : Triple 𝓤 (C #sheet·at-end) (AtEnd 𝓤 H A mem run))
+      (known-opened : Triple 𝓤 (C #sheet·opened) (Opened 𝓤 H A mem run)) (known-moved : Triple 𝓤 (C #sheet·moved) (Moved 𝓤 H A mem run)) (known-count : Triple 𝓤 (C #sheet·take-count) (Take 𝓤 H A count))
+      (known-words : Triple 𝓤 (C #sheet·take-word-count) (Take 𝓤 H A wordCount)) (known-set : Triple 𝓤 (C #sheet·take-set) (TakeSet 𝓤 H A mem run)) (known-end : Triple 𝓤 (C #sheet·at-end) (AtEnd 𝓤 H A mem run))
       (known-pins : Triple 𝓤 (C #sheet·check-pins) (CheckPins 𝓤 H A mem run)) (known-limit : Triple 𝓤 (C #sheet·term-limit) (TermLimit 𝓤 H A mem run)) (known-stopped : Triple 𝓤 (C #sheet·stopped) (Stopped 𝓤 H A mem run))
       (known-rules : Triple 𝓤 (C #sheet·read-rules) (ReadRules 𝓤 H A mem run)) where
     walk : Is (ShrSlice (named 0) κ u8) s (sheetVal s ∷ []) → ent 𝓤 (onEntry 𝓤 H A read-job.signature (κ, (κ′, tt)) (q, (q′, tt)) (s, (x, tt)) vals) (WpFn 𝓤 H C Λ code.function (sheetVal s ∷ vptr b o ∷ []) Exit)
@@ -232,12 +230,12 @@ module _ {M : Type 1} (𝓤 : URA M) (H : Heap 𝓤) (A : Atoms 𝓤) (W : Given
         alloc1 ! (λ l₁₀. alloc1 ! (λ l₁₁. alloc1 ! (λ l₁₂. alloc1 ! (λ l₁₃. alloc1 ! (λ l₁₄. alloc1 ! (λ l₁₅. alloc1 ! (λ l₁₆. alloc1 ! (λ l₁₇. alloc1 ! (λ l₁₈. alloc1 ! (λ l₁₉.
         alloc1 ! (λ l₂₀. alloc1 ! (λ l₂₁. alloc1 ! (λ l₂₂. alloc1 ! (λ l₂₃. alloc1 ! (λ l₂₄. alloc1 ! (λ l₂₅. alloc1 ! (λ l₂₆. alloc1 ! (λ l₂₇. alloc1 ! (λ l₂₈. alloc1 ! (λ l₂₉. alloc0 ! $ params1 ! $
         pass1 ! (init ! 56 refl (shr-slice-lawful 𝓤 H A W (named 0) κ u8 .typed s (sheetVal s ∷ []) is-sheet .0)) $ pass1 ! (init ! 54 refl (tt, tt)) $ pass0 ! $
-        move ! (60 ∷ backwards 30) $ use1 W (Token ⊛ Owned ⊛ Lent) enters $ split3 ! $
+        move ! (60 ∷ backwards 30) $ use1 W (Tok κ q ⊛ Owned ⊛ Lent) enters $ split3 ! $
         -- [the token; what sheet owns; what rules owns; _0; …; _1; …]: from here on local i stands at 3 + 2 · i
         opening 𝓤 H A W mem run κ q s fm known-opened (and-then ! (held ! 5 refl) (no-more !)) (land ! (from ! (stop !)) (init ! 9 refl (reader-typed 0 (lit< tt))) $
         -- the wires
         assigns ! (of-opd ! (held ! 9 refl)) (from ! (stop !)) (init ! 45 refl (reader-typed 0 (lit< tt))) $
-        counting 𝓤 H A W mem run κ q s fm known-count 0 _ (and-then ! (held ! 45 refl) (and-then ! (lit ! tt) (no-more !))) (lit< tt) (lit< tt) (λ is₁. stepped 11 refl refl _ is₁
+        counting 𝓤 H A W mem run κ q s fm count known-count 0 _ (and-then ! (held ! 45 refl) (and-then ! (lit ! tt) (no-more !))) (lit< tt) (lit< tt) (λ is₁. stepped 11 refl refl _ is₁
         (λ w is e. refusing fm known-stopped (full _ ∷ full _ ∷ full _ ∷ full _ ∷ gap 16 (full _ ∷ [])) w is ys gone (unread w (stop₁ s′ w (faulty _ _ w refl e))) (tag 11 refl refl) (and-then ! (held ! 12 refl) (no-more !)))
         (λ n p n-fits p-fits e₁. let f₁ = found (count wireLimit s′ 0) _ n p refl e₁ in let most = count-bounds wireLimit s′ 0 n p f₁ in
         got-two 11 13 15 refl refl refl (tt, record { fits = n-fits }) refl refl (tt, record { fits = p-fits }) $
@@ -263,7 +261,7 @@ module _ {M : Type 1} (𝓤 : URA M) (H : Heap 𝓤) (A : Atoms 𝓤) (W : Given
         -- how many rules there are
         assigns ! (of-opd ! (held ! 9 refl)) (from ! (stop !)) (init ! 53 refl (reader-typed 0 (lit< tt))) $
         moving 𝓤 H A W mem run κ q s fm known-moved 0 p₄ (and-then ! (held ! 53 refl) (and-then ! (held ! 31 refl) (no-more !))) (lit< tt) p₄-fits (land ! (from ! (stop !)) (store ! 47 refl (reader-typed p₄ p₄-fits)) $
-        word-counting 𝓤 H A W mem run κ q s fm known-words p₄ _ (and-then ! (held ! 47 refl) (and-then ! (lit ! tt) (no-more !))) p₄-fits (lit< tt) (λ is₅. stepped 33 refl refl _ is₅
+        counting 𝓤 H A W mem run κ q s fm wordCount known-words p₄ _ (and-then ! (held ! 47 refl) (and-then ! (lit ! tt) (no-more !))) p₄-fits (lit< tt) (λ is₅. stepped 33 refl refl _ is₅
         (λ w is e. refusing fm known-stopped (full _ ∷ full _ ∷ full _ ∷ full _ ∷ full _ ∷ full _ ∷ full _ ∷ full _ ∷ full _ ∷ full _ ∷ full _ ∷ full _ ∷ full _ ∷ full _ ∷ full _ ∷ gap 5 (full _ ∷ full _ ∷ full _ ∷ full _ ∷ full _ ∷ [])) w is ys gone (unread w (stop₅ s′ n p f₁ v₂ p₂ f₂ a p₃ f₃ b′ p₄ f₄ w (faulty _ _ w refl e))) (tag 33 refl refl) (and-then ! (held ! 34 refl) (no-more !)))
         (λ k p₅ k-fits p₅-fits e₅. let f₅ = found (wordCount ruleLimit s′ p₄) _ k p₅ refl e₅ in let few = word-count-bounds ruleLimit s′ p₄ k p₅ f₅ in
         let read : Head = record { wires = n; pins = pinsOf s′ n p f₁ v₂ p₂ f₂; seesA = a; seesB = b′; count = k } in
@@ -289,7 +287,7 @@ module _ {M : Type 1} (𝓤 : URA M) (H : Heap 𝓤) (A : Atoms 𝓤) (W : Given
         returns ! (look ! 3 refl) $ group ! 3 $ frees-all ! _ (full _ ∷ full _ ∷ full _ ∷ full _ ∷ full _ ∷ full _ ∷ full _ ∷ full _ ∷ full _ ∷ full _ ∷ full _ ∷ full _ ∷ full _ ∷ full _ ∷ full _ ∷ full _ ∷ full _ ∷ full _ ∷ full _ ∷ full _ ∷ full _ ∷ full _ ∷ full _ ∷ full _ ∷ full _ ∷ full _ ∷ full _ ∷ full _ ∷ full _ ∷ full _ ∷ []) $
         by ! (exits (jobRead.Accepted h) is zs (ap (λ z. jobRead.Accepted (record { wires = n; «sees_a» = a; «sees_b» = b′; rules = k; «pins_at» = z })) (most .1) ∙ all s′ read p₅ top v₆ p₆ f₆ v₇ p₇ (found _ _ v₇ p₇ refl e₇), so))))))))))))))))))))))))))))))))))))))))))))))))))))
       where
-        reader-typed : (p : ℕ) → p < 2 ^ 64 → Holds (hasTy (T′.mir erased) (T′.lowered (at 𝓤 H A W mem run κ q s p))) × WT (T′.lowered (at 𝓤 H A W mem run κ q s p))
+        reader-typed : (p : ℕ) → p < 2 ^ 64 → Holds (hasTy (T′.mir erased) (T′.lowered (at s p))) × WT (T′.lowered (at s p))
         reader-typed p fits = (tt, (shr-slice-lawful 𝓤 H A W (named 0) κ u8 .typed s (sheetVal s ∷ []) is-sheet .0 .1, (record { fits = fits }, tt)))
 
 -- that each callee meets its contract
@@ -297,8 +295,8 @@ abbrev Known : {M : Type 1} (𝓤 : URA M) (H : Heap 𝓤) (A : Atoms 𝓤) (mem
 Known 𝓤 H A mem run C =
     Triple 𝓤 (C #sheet·opened) (Opened 𝓤 H A mem run)
     × Triple 𝓤 (C #sheet·moved) (Moved 𝓤 H A mem run)
-    × Triple 𝓤 (C #sheet·take-count) (TakeCount 𝓤 H A mem run)
-    × Triple 𝓤 (C #sheet·take-word-count) (TakeWordCount 𝓤 H A mem run)
+    × Triple 𝓤 (C #sheet·take-count) (Take 𝓤 H A count)
+    × Triple 𝓤 (C #sheet·take-word-count) (Take 𝓤 H A wordCount)
     × Triple 𝓤 (C #sheet·take-set) (TakeSet 𝓤 H A mem run)
     × Triple 𝓤 (C #sheet·at-end) (AtEnd 𝓤 H A mem run)
     × Triple 𝓤 (C #sheet·check-pins) (CheckPins 𝓤 H A mem run)
@@ -324,8 +322,8 @@ read-job-spec 𝓤 H 𝓜 𝓖 𝓡 =
     (job-meets 𝓤 H (𝓖 .A) (givenOf 𝓤 H 𝓜 𝓖) (𝓜 .mem) (𝓡 .run) (tablesOf 𝓤 H 𝓜 (tables 𝓤 H 𝓜 𝓡 code.env)) (
       cited 𝓤 H (Opened 𝓤 H (𝓖 .A) (𝓜 .mem) (𝓡 .run)) 𝓜 𝓡 code.env #sheet·opened opened-def.routine code.calls-sheet·opened (opened-thm.met 𝓤 H 𝓜 𝓖 𝓡),
       cited 𝓤 H (Moved 𝓤 H (𝓖 .A) (𝓜 .mem) (𝓡 .run)) 𝓜 𝓡 code.env #sheet·moved moved-def.routine code.calls-sheet·moved (moved-thm.met 𝓤 H 𝓜 𝓖 𝓡),
-      cited 𝓤 H (TakeCount 𝓤 H (𝓖 .A) (𝓜 .mem) (𝓡 .run)) 𝓜 𝓡 code.env #sheet·take-count take-count-def.routine code.calls-sheet·take-count (take-count-thm.met 𝓤 H 𝓜 𝓖 𝓡),
-      cited 𝓤 H (TakeWordCount 𝓤 H (𝓖 .A) (𝓜 .mem) (𝓡 .run)) 𝓜 𝓡 code.env #sheet·take-word-count take-word-count-def.routine code.calls-sheet·take-word-count (take-word-count-thm.met 𝓤 H 𝓜 𝓖 𝓡),
+      cited 𝓤 H (Take 𝓤 H (𝓖 .A) count) 𝓜 𝓡 code.env #sheet·take-count take-count-def.routine code.calls-sheet·take-count (take-count-thm.met 𝓤 H 𝓜 𝓖 𝓡),
+      cited 𝓤 H (Take 𝓤 H (𝓖 .A) wordCount) 𝓜 𝓡 code.env #sheet·take-word-count take-word-count-def.routine code.calls-sheet·take-word-count (take-word-count-thm.met 𝓤 H 𝓜 𝓖 𝓡),
       cited 𝓤 H (TakeSet 𝓤 H (𝓖 .A) (𝓜 .mem) (𝓡 .run)) 𝓜 𝓡 code.env #sheet·take-set take-set-def.routine code.calls-sheet·take-set (take-set-thm.met 𝓤 H 𝓜 𝓖 𝓡),
       cited 𝓤 H (AtEnd 𝓤 H (𝓖 .A) (𝓜 .mem) (𝓡 .run)) 𝓜 𝓡 code.env #sheet·at-end at-end-def.routine code.calls-sheet·at-end (at-end-thm.met 𝓤 H 𝓜 𝓖 𝓡),
       cited 𝓤 H (CheckPins 𝓤 H (𝓖 .A) (𝓜 .mem) (𝓡 .run)) 𝓜 𝓡 code.env #sheet·check-pins check-pins-def.routine code.calls-sheet·check-pins (check-pins-thm.met 𝓤 H 𝓜 𝓖 𝓡),
