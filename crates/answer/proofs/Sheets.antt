@@ -116,7 +116,7 @@ entries-read claims combinations s at (e ∷ es) m l all =
     let rest = entries-read claims combinations s (at + 4) es m l (entries-rest claims combinations s at n e es m l all) in
     rw (a, b, rest)
 
-end-read : (s : List ℕ) (at : ℕ) → length s ≡ at → end s at ≡ got 0 at
+pub end-read : (s : List ℕ) (at : ℕ) → length s ≡ at → end s at ≡ got 0 at
 unfolding end
 end-read s at e = rw (le-ltb at (length s) (omega arith))
 

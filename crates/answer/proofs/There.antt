@@ -48,7 +48,7 @@ word-there s at v m h =
     }
 
 -- a value that was kept passed its test
-kept : (b : Bool) (x y v n : ℕ) (w : Refusal) → pick b (got x y) (refused w) ≡ got v n → (b ≡ true) × (x ≡ v) × (y ≡ n)
+pub kept : (b : Bool) (x y v n : ℕ) (w : Refusal) → pick b (got x y) (refused w) ≡ got v n → (b ≡ true) × (x ≡ v) × (y ≡ n)
 kept true x y v n w h = (refl, cc, cc)
 kept false x y v n w h = absurd (apart v n w (sym h))
 

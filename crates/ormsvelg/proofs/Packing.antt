@@ -2,7 +2,8 @@
 --     unpack-pack    an outcome of small numbers is found again in its number
 --     read-packs     each outcome of the reader has small numbers
 --     read-found     so it is found again
---     check-packs, check-found       the same for the checker
+--     write-packs, write-found       the same for the writer
+--     check-packs, check-found       and for the checker
 --     solve-packs, solve-found       and for the solver
 --     widen-packs, widen-found       and for the widener
 -- Assumes nothing.
@@ -30,6 +31,12 @@ use Rattle.answer.specs.AnswerSheet.{readAnswer}
 use Rattle.answer.specs.AnswerSheet.{longest as longestAnswer}
 use Rattle.answer.proofs.There.{walk-there}
 use Rattle.answer.proofs.Length.{place-small as answer-place-small}
+use Rattle.writer.specs.declared.Judged.{Judged}
+use Rattle.writer.specs.declared.Judged.the-variants.{Fine, Amiss}
+use Rattle.writer.specs.JobWritten.{jobSheet}
+use Rattle.writer.specs.Writing.{writeOutcome}
+use Rattle.writer.specs.Writing.{judge as judgeJob, outcomeOf as outcomeWritten}
+use Rattle.writer.proofs.Small.{Small, judge-small, sheet-small}
 use Rattle.board.specs.Board.{Board, opposite}
 use Rattle.board.specs.Walk.{entry}
 use Rattle.board.specs.Tests.{amongb}
@@ -225,3 +232,21 @@ widen-packs p q s entry = p-packs p q s entry (readJob p) refl
 
 pub widen-found : (p q s entry : List ℕ) → unpack (pack (widened p q s entry .outcome)) ≡ widened p q s entry .outcome
 widen-found p q s entry = unpack-pack (widened p q s entry .outcome) (widen-packs p q s entry)
+
+-- ---- the writer
+
+written-packs : (g : Judged) (long : ℕ) → Small g → (g ≡ Fine → long < 65536) → Packs (outcomeWritten g long)
+written-packs Fine long h l = record {
+  code = omega arith;
+  sheet = omega arith;
+  place = omega arith;
+  written = omega (arith, l refl);
+}
+written-packs (Amiss c s p) long h l = refusal-packs c s p (omega (arith, h .code)) (omega (arith, h .section)) (omega (arith, h .place))
+
+pub write-packs : (j : Job) (room : ℕ) → Packs (writeOutcome j room)
+unfolding writeOutcome
+write-packs j room = written-packs (judgeJob j room) (length (jobSheet j)) (judge-small j room) (sheet-small j room)
+
+pub write-found : (j : Job) (room : ℕ) → unpack (pack (writeOutcome j room)) ≡ writeOutcome j room
+write-found j room = unpack-pack (writeOutcome j room) (write-packs j room)

@@ -4,6 +4,9 @@
 use steps::Outcome;
 ghost use mathlib.Core.Path.{_≡_};
 ghost use Rattle.sheet.specs.JobSheet.{readOutcome};
+ghost use lib.ListN.{length};
+ghost use Rattle.writer.specs.JobWritten.{described};
+ghost use Rattle.writer.specs.Writing.{writeOutcome, writeExit};
 ghost use Rattle.board.specs.Check.{checkOutcome};
 ghost use Rattle.solver.specs.Solved.{Solved};
 ghost use Rattle.widener.specs.Widened.{widened};
@@ -26,6 +29,21 @@ pub extern "C" fn ormsvelg_read(job: &[u8]) -> u64
     ensures { λ r. ⌜ r ≡ pack (readOutcome (now (job .entry))) ⌝ }
 {
     packed(sheet::read_sheet(job))
+}
+
+// The outcome of writing a job sheet from a description; on success the sheet is at the front of the lent buffer.
+#[no_mangle]
+pub extern "C" fn ormsvelg_write(
+    pins: &[u8],
+    sees_a: u32,
+    sees_b: u32,
+    rules: &[u32],
+    sheet: &mut [u8],
+) -> u64
+    ensures { λ r. ⌜ r ≡ pack (writeOutcome (described (now (pins .entry)) «sees_a» «sees_b» (now (rules .entry))) (length (now (sheet .entry)))) ⌝ }
+    ensures { λ r. ⌜ now (sheet .exit) ≡ writeExit (described (now (pins .entry)) «sees_a» «sees_b» (now (rules .entry))) (now (sheet .entry)) ⌝ }
+{
+    packed(writer::write_job(pins, sees_a, sees_b, rules, sheet))
 }
 
 // The outcome of checking an answer sheet against a job sheet.

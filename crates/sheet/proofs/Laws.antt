@@ -55,7 +55,7 @@ mask-lt n limit s at v m h =
     let most : maskOf (i .0) + 2 ^ 0 ≤ 2 ^ limit = entries-lt n limit 0 s at (i .0) (i .1) (omega arith) (i .2) in
     omega arith
 
-counted-lt : (most limit : ℕ) (s : List ℕ) (at v m : ℕ) → countedMask most limit s at ≡ got v m → v < 2 ^ limit
+pub counted-lt : (most limit : ℕ) (s : List ℕ) (at v m : ℕ) → countedMask most limit s at ≡ got v m → v < 2 ^ limit
 unfolding countedMask
 counted-lt most limit s at v m h = let i = next-inv (count most s at) _ v m h in mask-lt (i .0) limit s (i .1) v m (i .3)
 

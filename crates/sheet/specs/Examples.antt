@@ -8,17 +8,17 @@ use Rattle.steps.specs.Bytes.{byte, word, within, count, wordCount, rising, ent
 use Rattle.sheet.specs.JobSheet.{maskOf, mask, countedMask, rules, head, job, readJob}
 
 -- J1 to J4
-pub j1 : List ℕ
+unfoldable pub j1 : List ℕ
 j1 = 0 ∷ 0 ∷ 0 ∷ 0 ∷ 0 ∷ []
 
-pub j2 : List ℕ
+unfoldable pub j2 : List ℕ
 j2 = 1 ∷ 4 ∷ 1 ∷ 0 ∷ 1 ∷ 0 ∷ 2 ∷ 0 ∷ 2 ∷ 2 ∷ 4 ∷ 2 ∷ 3 ∷ 5 ∷ []
 
-pub j3 : List ℕ
+unfoldable pub j3 : List ℕ
 j3 =
     2 ∷ 4 ∷ 7 ∷ 1 ∷ 0 ∷ 1 ∷ 1 ∷ 6 ∷ 0 ∷ 4 ∷ 0 ∷ 3 ∷ 4 ∷ 6 ∷ 4 ∷ 1 ∷ 2 ∷ 4 ∷ 6 ∷ 3 ∷ 0 ∷ 2 ∷ 5 ∷ 3 ∷ 0 ∷ 2 ∷ 7 ∷ 3 ∷ 1 ∷ 3 ∷ 5 ∷ 3 ∷ 1 ∷ 3 ∷ 7 ∷ []
 
-pub j4 : List ℕ
+unfoldable pub j4 : List ℕ
 j4 = 0 ∷ 0 ∷ 0 ∷ 1 ∷ 0 ∷ 0 ∷ []
 
 pub sheets : List (List ℕ)

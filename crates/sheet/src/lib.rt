@@ -120,7 +120,7 @@ pub fn read_rules(sheet: &[u8], at: usize, count: u32, terms: u32, rules: &mut [
 }
 
 // How many terms a job with so many wires has.
-fn term_limit(wires: u32) -> u32
+pub fn term_limit(wires: u32) -> u32
     requires { ⌜ wires ≤ wireLimit ⌝ }
     ensures { λ r. ⌜ r ≡ termsOf wires ⌝ }
 {

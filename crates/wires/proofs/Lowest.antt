@@ -14,13 +14,13 @@ use Rattle.wires.proofs.Rows.{shown-on, shown-off, placed-on, placed-of
 abbrev pub rest : ℕ → ℕ
 rest s = bitAnd s (s - 1)
 
-rest-on : (s : ℕ) → s % 2 ≡ 1 → rest s ≡ s / 2 * 2
+pub rest-on : (s : ℕ) → s % 2 ≡ 1 → rest s ≡ s / 2 * 2
 rest-on s e = omega (arith, and-step s (s - 1), ap (bitAnd (s / 2)) halves, and-self (s / 2))
   where
     halves : (s - 1) / 2 ≡ s / 2
     halves = omega arith
 
-rest-off : (s : ℕ) → s % 2 ≡ 0 → 0 < s → rest s ≡ rest (s / 2) * 2
+pub rest-off : (s : ℕ) → s % 2 ≡ 0 → 0 < s → rest s ≡ rest (s / 2) * 2
 rest-off s e l = omega (arith, and-step s (s - 1), ap (bitAnd (s / 2)) halves)
   where
     halves : (s - 1) / 2 ≡ s / 2 - 1
@@ -29,11 +29,11 @@ rest-off s e l = omega (arith, and-step s (s - 1), ap (bitAnd (s / 2)) halves)
 pub rest-below : (s : ℕ) → 0 < s → rest s < s
 rest-below s l = omega (arith, and-le-r s (s - 1))
 
-trailing-on : (n s : ℕ) → s % 2 ≡ 1 → trailingZeros (suc n) s ≡ 0
+pub trailing-on : (n s : ℕ) → s % 2 ≡ 1 → trailingZeros (suc n) s ≡ 0
 unfolding trailingZeros
 trailing-on n s e = ap (λ (d : ℕ). under d (trailingZeros n (s / 2))) e
 
-trailing-off : (n s : ℕ) → s % 2 ≡ 0 → trailingZeros (suc n) s ≡ suc (trailingZeros n (s / 2))
+pub trailing-off : (n s : ℕ) → s % 2 ≡ 0 → trailingZeros (suc n) s ≡ suc (trailingZeros n (s / 2))
 unfolding trailingZeros
 trailing-off n s e = ap (λ (d : ℕ). under d (trailingZeros n (s / 2))) e
 

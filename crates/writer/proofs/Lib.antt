@@ -1,0 +1,9 @@
+pub mod Sets
+pub mod Judging
+pub mod Stores
+pub mod Small
+pub mod Masks
+pub mod Sound
+pub mod Stands
+pub mod Found
+pub mod Back

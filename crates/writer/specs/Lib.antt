@@ -1,0 +1,3 @@
+pub mod JobWritten
+pub mod Writing
+pub mod Examples
