@@ -1,7 +1,7 @@
 # Ormsvelg: what there is to run. Build outputs go to build/, what rt proves and writes to target/.
 #   make test                         the whole gate, .ci/run
 #   make run JOB=FILE                 the answer for a job sheet, as the bench prints it
-#   make build/ormsvelg               the command: ormsvelg read, solve, check and widen for files, in words
+#   make build/ormsvelg               the command: ormsvelg read, solve, check, widen and write for files, in words
 #   make read JOB=FILE                what the command says of a job sheet
 #   make check JOB=FILE ANSWER=FILE   what the command says of an answer sheet for a job sheet
 #   make install PREFIX=/usr/local    the command, its manual page, the library, its header and its pkg-config file
@@ -37,7 +37,7 @@ $(BENCH): $(PROVED)
 	@rt check bench >&2
 	@touch $@
 
-COMMAND = host/ormsvelg.c host/save.h host/sheet.h host/words.h include/ormsvelg.h Makefile tools/x86 $(LIBRARY)
+COMMAND = host/ormsvelg.c host/describe.h host/save.h host/sheet.h host/words.h include/ormsvelg.h Makefile tools/x86 $(LIBRARY)
 
 build/ormsvelg: $(COMMAND)
 	@mkdir -p build
@@ -70,18 +70,19 @@ install: build/ormsvelg
 	sed '/^#/d; s|@PREFIX@|$(PREFIX)|; s|@VERSION@|$(VERSION)|' host/ormsvelg.pc.in >build/ormsvelg.pc
 	install -m 644 build/ormsvelg.pc "$(TO)/lib/pkgconfig/ormsvelg.pc"
 
-build/test build/test_solve build/test_widen: build/%: host/%.c host/lent.h include/ormsvelg.h tools/x86 $(LIBRARY)
+build/test build/test_solve build/test_widen build/test_write: build/%: host/%.c host/lent.h include/ormsvelg.h tools/x86 $(LIBRARY)
 	@mkdir -p build
 	$(HOST) -o $@ host/$*.c $(LIBRARY)
 
-build/test-sanitized build/test_solve-sanitized build/test_widen-sanitized: build/%-sanitized: host/%.c host/lent.h include/ormsvelg.h tools/x86 $(LIBRARY)
+build/test-sanitized build/test_solve-sanitized build/test_widen-sanitized build/test_write-sanitized: build/%-sanitized: host/%.c host/lent.h include/ormsvelg.h tools/x86 $(LIBRARY)
 	@mkdir -p build
 	$(HOST) $(SANITIZED) -o $@ host/$*.c $(LIBRARY)
 
-host-test: build/test build/test_solve build/test_widen build/ormsvelg $(BENCH)
+host-test: build/test build/test_solve build/test_widen build/test_write build/ormsvelg $(BENCH)
 	tools/x86 run build/test
 	tools/x86 run build/test_solve
 	tools/x86 run build/test_widen
+	tools/x86 run build/test_write
 	host/test_command.sh build/ormsvelg
 	host/test_bench.sh $(BENCH) build/ormsvelg
 	host/test_install.sh
@@ -91,10 +92,11 @@ else
 	@echo "skipped: sanitizers run on x86-64 alone"
 endif
 
-host-test-sanitized: build/test-sanitized build/test_solve-sanitized build/test_widen-sanitized build/ormsvelg-sanitized
+host-test-sanitized: build/test-sanitized build/test_solve-sanitized build/test_widen-sanitized build/test_write-sanitized build/ormsvelg-sanitized
 	tools/x86 run build/test-sanitized
 	tools/x86 run build/test_solve-sanitized
 	tools/x86 run build/test_widen-sanitized
+	tools/x86 run build/test_write-sanitized
 	host/test_command.sh build/ormsvelg-sanitized
 
 build/drive: host/drive.c tools/x86 $(LIBRARY)

@@ -1,9 +1,10 @@
-/* host/ormsvelg.c: the command for files at the bench: reads, solves, checks and widens sheets, and tells it in words.
+/* host/ormsvelg.c: the command for files at the bench: reads, solves, checks, widens and writes sheets, told in words.
  * Use: ormsvelg --help. Exit status: 0 an accepted outcome, 1 a refusal, 2 a wrong use or a file that fails.
- * Every outcome is the proved library's. What stands here carries bytes and puts numbers into words.
+ * Every outcome is the proved library's. What stands here carries bytes, takes a text apart and puts numbers into words.
  */
 #define _XOPEN_SOURCE 700
 
+#include "describe.h"
 #include "save.h"
 #include "sheet.h"
 #include "words.h"
@@ -14,11 +15,11 @@
 
 #define MOST_SHEETS 3
 
-enum act { READ, SOLVE, CHECK, WIDEN };
+enum act { READ, SOLVE, CHECK, WIDEN, WRITE };
 
 struct verb {
     const char *name, *wants;
-    int sheets, writes;
+    int files, writes;
 };
 
 static const struct verb verbs[] = {
@@ -26,13 +27,14 @@ static const struct verb verbs[] = {
     [SOLVE] = {"solve", "JOB [-o ANSWER]", 1, 1},
     [CHECK] = {"check", "JOB ANSWER", 2, 0},
     [WIDEN] = {"widen", "P Q ANSWER [-o OUT]", 3, 1},
+    [WRITE] = {"write", "TEXT [-o JOB]", 1, 1},
 };
 
 #define VERBS ((int)(sizeof verbs / sizeof verbs[0]))
 
-/* What the words of the command ask for: an act, its sheets, and where an answer sheet goes, or null. */
+/* What the words of the command ask for: an act, the files it reads, and where the sheet it makes goes, or null. */
 struct request {
-    int act, sheets;
+    int act, files;
     const char *paths[MOST_SHEETS], *target;
 };
 
@@ -43,12 +45,23 @@ static const char help[] =
     "  ormsvelg solve JOB [-o ANSWER]        gives the first fitting pair of tables, or a walk that shows there is none\n"
     "  ormsvelg check JOB ANSWER             checks an answer sheet for a job\n"
     "  ormsvelg widen P Q ANSWER [-o OUT]    widens tables for job P to job Q, which asks no more\n"
+    "  ormsvelg write TEXT [-o JOB]          makes a job sheet from a readable text\n"
     "  ormsvelg --help | --version\n"
     "\n"
-    "A sheet is a file of bytes; one of them may be -, standard input. With -o the answer sheet is put in a file, whole or\n"
-    "not at all. A table has a digit for each row, rows rising; a row is numbered by the wires the cell sees, lowest\n"
+    "A sheet is a file of bytes; one file may be -, standard input. With -o the sheet that is made is put in a file, whole\n"
+    "or not at all. A table has a digit for each row, rows rising; a row is numbered by the wires the cell sees, lowest\n"
     "first, with weights 1, 2, 4 and so on. A line of a walk says what one row's value asks of another's, by the states\n"
     "of the wires; the last leads back to the first. In a refusal sheet 1 is JOB or P, sheet 2 ANSWER, sheet 3 Q.\n"
+    "\n"
+    "A text has a line for the pins of the wires, one for the wires that A sees, one for those that B sees, and then one\n"
+    "for each rule. Wires are numbered from 0, in the order of their pins; # begins a comment:\n"
+    "\n"
+    "  pins 4 7\n"
+    "  A 0\n"
+    "  B 1\n"
+    "  rule +1 A -B    # wire 1 is 1 or A is 1 or B is 0\n"
+    "\n"
+    "A refusal of a text names line and column. Sections 1 to 4 are the pins, A, B and the rules.\n"
     "\n"
     "Exit status: 0 an accepted outcome, 1 a refusal, 2 a wrong use or a file that fails.\n";
 
@@ -85,12 +98,12 @@ static int take_path(const char *word, struct request *request)
 {
     if (word[0] == '-' && word[1] != 0)
         return wrong_use("unknown option: ", word);
-    if (request->sheets == verbs[request->act].sheets)
+    if (request->files == verbs[request->act].files)
         return wrong_use("one word too many: ", word);
-    for (int i = 0; i < request->sheets; i++)
+    for (int i = 0; i < request->files; i++)
         if (is_standard_input(word) && is_standard_input(request->paths[i]))
             return wrong_use("only one sheet can be -, standard input", "");
-    request->paths[request->sheets++] = word;
+    request->paths[request->files++] = word;
     return 1;
 }
 
@@ -111,23 +124,23 @@ static int take_words(int count, char **words, struct request *request)
             return 0;
         at += taken;
     }
-    if (request->sheets == verbs[request->act].sheets)
+    if (request->files == verbs[request->act].files)
         return 1;
-    fprintf(stderr, "ormsvelg: a sheet is missing\nuse: ormsvelg %s %s\n", words[0], verbs[request->act].wants);
+    fprintf(stderr, "ormsvelg: a file is missing\nuse: ormsvelg %s %s\n", words[0], verbs[request->act].wants);
     return 0;
 }
 
-/* Whether the target is one of the sheets: the answer would then take its place. */
+/* Whether the target is one of the files that are read: what is made would then take its place. */
 static int target_is_read(const struct request *request)
 {
-    struct stat target, sheet;
+    struct stat target, file;
     if (request->target == NULL || stat(request->target, &target) != 0 || !S_ISREG(target.st_mode))
         return 0;
-    for (int i = 0; i < request->sheets; i++) {
-        if (is_standard_input(request->paths[i]) || stat(request->paths[i], &sheet) != 0)
+    for (int i = 0; i < request->files; i++) {
+        if (is_standard_input(request->paths[i]) || stat(request->paths[i], &file) != 0)
             continue;
-        if (sheet.st_dev == target.st_dev && sheet.st_ino == target.st_ino)
-            return !wrong_use("-o names a sheet that is read: ", request->target);
+        if (file.st_dev == target.st_dev && file.st_ino == target.st_ino)
+            return !wrong_use("-o names a file that is read: ", request->target);
     }
     return 0;
 }
@@ -168,19 +181,56 @@ static int tell(uint64_t outcome, enum act act, const struct bench *bench)
     }
 }
 
-static int serve(const struct request *request)
+static int serve_sheets(const struct request *request)
 {
     static struct bench bench;
-    if (target_is_read(request))
-        return NO_SHEET;
-    for (int i = 0; i < request->sheets; i++)
-        if (!load(request->paths[i], &bench.sheets[i]))
+    for (int i = 0; i < request->files; i++) {
+        struct sheet *sheet = &bench.sheets[i];
+        if (!load(request->paths[i], sheet->bytes, sizeof sheet->bytes, &sheet->length))
             return NO_SHEET;
+    }
     uint64_t outcome = call((enum act)request->act, &bench);
     if (request->target != NULL && ormsvelg_written(outcome) > 0
         && !save(request->target, bench.out, ormsvelg_written(outcome)))
         return NO_SHEET;
     return tell(outcome, (enum act)request->act, &bench);
+}
+
+/* Writes a description's sheet, puts it where it is wanted and says what it holds. Any sheet has room. */
+static int serve_description(const struct request *request, const struct text *text, const struct description *described)
+{
+    static uint8_t sheet[ORMSVELG_LONGEST_JOB];
+    uint64_t outcome = ormsvelg_write(described->pins, described->wires, described->sees[0], described->sees[1],
+                                      described->rules, described->rules_len, sheet, sizeof sheet);
+    if (ormsvelg_code(outcome) != ORMSVELG_ACCEPTED) {
+        show_refused_entry(outcome, text, described);
+        return 1;
+    }
+    if (request->target != NULL && !save(request->target, sheet, ormsvelg_written(outcome)))
+        return NO_SHEET;
+    printf("sheet of %u bytes\n", (unsigned)ormsvelg_written(outcome));
+    show_job(sheet);
+    return 0;
+}
+
+static int serve_text(const struct request *request)
+{
+    static struct text text;
+    static struct description described;
+    struct reading reading;
+    if (!load(request->paths[0], text.bytes, sizeof text.bytes, &text.length))
+        return NO_SHEET;
+    if (describe(&text, &reading, &described))
+        return serve_description(request, &text, &described);
+    show_fault(&reading);
+    return 1;
+}
+
+static int serve(const struct request *request)
+{
+    if (target_is_read(request))
+        return NO_SHEET;
+    return request->act == WRITE ? serve_text(request) : serve_sheets(request);
 }
 
 /* What was printed may still fail to go out. */

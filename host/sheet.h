@@ -1,4 +1,4 @@
-/* host/sheet.h: what the command takes in: a sheet from a file, its numbers, and a table as digits.
+/* host/sheet.h: what the command takes in: a file's bytes, a sheet's numbers, and a table as digits.
  * The name `-` is standard input. A file is never read further than the byte that decides its outcome.
  */
 #ifndef HOST_SHEET_H
@@ -22,20 +22,20 @@ struct sheet {
 static inline int is_standard_input(const char *path) { return strcmp(path, "-") == 0; }
 
 /* Takes an open file's bytes, as many as there is room for. Gives 0 or why it can't be read. */
-static inline int take(FILE *file, struct sheet *sheet)
+static inline int take(FILE *file, uint8_t *bytes, size_t room, size_t *length)
 {
     errno = 0;
-    sheet->length = fread(sheet->bytes, 1, sizeof sheet->bytes, file);
+    *length = fread(bytes, 1, room, file);
     if (!ferror(file))
         return 0;
     return errno != 0 ? errno : EIO;
 }
 
 /* Takes a file's bytes. Gives 0, once it has said why, where the file can't be read. */
-static inline int load(const char *path, struct sheet *sheet)
+static inline int load(const char *path, uint8_t *bytes, size_t room, size_t *length)
 {
     FILE *file = is_standard_input(path) ? stdin : fopen(path, "rb");
-    int why = file == NULL ? errno : take(file, sheet);
+    int why = file == NULL ? errno : take(file, bytes, room, length);
     if (file != NULL && file != stdin)
         fclose(file);
     if (why != 0)

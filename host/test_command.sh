@@ -1,7 +1,7 @@
 #!/usr/bin/env bash
 # host/test_command.sh PROGRAM: the command on the examples and on every kind of error, its exit status and its words.
-# What it should say of the examples is written out by hand. The errors are those of use, of files that can't be read,
-# and of answers that can't be written; a target that was there must stay whole, and nothing may lie beside it.
+# What it should say of the examples and of texts is written out by hand. The errors are those of use, of files that can't
+# be read, and of sheets that can't be written; a target that was there must stay whole, and nothing may lie beside it.
 # PROGRAM is the command, plain or sanitized; it runs through tools/x86.
 set -u
 
@@ -35,6 +35,23 @@ fails() { # FIRST_LINE -- ARGS
 }
 
 bytes() { printf "$(printf '\\x%s' "$@")"; } # HEX..
+
+# A text, with its escapes, that is refused: what is said of it.
+refused_text() { # SAID TEXT
+    printf '%b' "$2" >"$folder/text"
+    says 1 "refused: $1" -- write "$folder/text"
+}
+
+# A text, with its escapes, that makes the sheet of these bytes.
+makes() { # TEXT HEX..
+    local text=$1 said
+    shift
+    printf '%b' "$text" >"$folder/text"
+    said=$(ormsvelg write "$folder/text" -o "$folder/made" 2>&1)
+    expect "a text: $text" "$? ${said%%$'\n'*}" "0 sheet of $# bytes"
+    expect "a text: $text: the sheet" "$(bytes "$@" | cmp - "$folder/made" && echo same)" same
+    rm -f "$folder/made"
+}
 
 # The folder for answers holds these names and no more.
 holds() { # NAME NAMES..
@@ -145,18 +162,139 @@ sizes() {
         -- check examples/J1.job "$folder/answer"
 }
 
+# Texts that make a sheet. Those of the examples make the examples' sheets.
+texts() {
+    local name
+    says 0 'sheet of 14 bytes' 'wires 1, on pins 4' 'A sees wires 0, rows 2' 'B sees wires 0, rows 2' 'rules 2' \
+        'rule 0: A is 1 or B is 1' 'rule 1: A is 0 or B is 0' -- write examples/J2.text
+    says 0 'sheet of 36 bytes' 'wires 4, on pins 2 3 5 8' 'A sees wires 1 2, rows 4' 'B sees wires 0 1 2 3, rows 16' \
+        'rules 6' 'rule 0: wire 1 is 0 or A is 1' 'rule 1: wire 2 is 0 or A is 1' \
+        'rule 2: wire 1 is 1 or wire 2 is 1 or A is 0' 'rule 3: wire 0 is 1 or B is 0' 'rule 4: A is 0 or B is 0' \
+        'rule 5: wire 0 is 0 or wire 3 is 0 or A is 1 or B is 1' -- write examples/counter-mended.text
+    for name in J2 counter-mended; do
+        ormsvelg write "examples/$name.text" -o "$folder/made" >"$folder/said"
+        expect "$name.text" "$? $(cmp "$folder/made" "examples/$name.job" && echo same)" '0 same'
+        expect "$name.text: what it holds" "$(tail -n +2 "$folder/said")" "$(ormsvelg read "examples/$name.job" | tail -n +2)"
+        rm "$folder/made"
+    done
+    makes 'pins\nA\nB\n' 00 00 00 00 00
+    makes 'pins\nA\nB' 00 00 00 00 00
+    makes 'pins\nA\nB\nrule\n' 00 00 00 01 00 00
+    makes 'pins\nA\nB\nrule' 00 00 00 01 00 00
+    makes 'pins 4\r\nA 0\r\nB 0\r\n\r\nrule A B\r\nrule -A -B\r\n' 01 04 01 00 01 00 02 00 02 02 04 02 03 05
+    makes '\n\t# none\n\n  pins\t4 # a pin\nA   0 \t\nB 0# a wire\n#\nrule B +A\n rule -B -A # x' \
+        01 04 01 00 01 00 02 00 02 02 04 02 03 05
+    makes 'pins 0 254 255\nA 2 0 1\nB 02\nrule -2 +0 -1 +B -A' 03 00 FE FF 03 00 01 02 01 02 01 00 05 00 03 05 07 08
+    makes 'pins 0000000000000000000000007\nA\nB\n# \xc3\xbe\nrule +0 -0' 01 07 00 00 01 00 02 00 01
+}
+
+# Texts that are not of the form: the first fault, by line and column.
+bad_texts() {
+    local head='pins 4 7\nA 0\nB 1\n' word='unknown word: a line begins with pins, A, B or rule'
+    local number='not a number in decimal digits' term='not a term: +p, -p, A, -A, B or -B, where p is a wire'
+    refused_text "line 1, column 1: $word" 'pin 4\nA\nB\n'
+    refused_text "line 1, column 1: $word" 'pins4\nA\nB\n'
+    refused_text "line 3, column 2: $word" 'pins 4\n\n a\nB\n'
+    refused_text "line 4, column 1: $word" "${head}rules +0\n"
+    refused_text "line 1, column 1: missing line of pins" ''
+    refused_text "line 1, column 1: missing line of pins" 'A\nB\n'
+    refused_text "line 2, column 1: missing line of pins" '# nothing\n'
+    refused_text "line 2, column 1: missing line of A" 'pins 4\nB 0\nA 0\n'
+    refused_text "line 2, column 7: missing line of A" 'pins 4\n  # A '
+    refused_text "line 2, column 3: missing line of A" 'pins 4\n\t rule A\n'
+    refused_text "line 3, column 1: missing line of B" 'pins 4\nA 0\nrule A\nB 0\n'
+    refused_text "line 2, column 4: missing line of B" 'pins 4\nA 0'
+    refused_text "line 2, column 1: second line of pins" 'pins 4\npins 7\nA\nB\n'
+    refused_text "line 4, column 1: second line of A" "${head}A 1\n"
+    refused_text "line 5, column 1: second line of B" "${head}rule\nB\n"
+    refused_text "line 1, column 6: $number" 'pins x\nA\nB\n'
+    refused_text "line 1, column 8: $number" 'pins 4 -7\nA\nB\n'
+    refused_text "line 1, column 6: $number" 'pins 0x4\nA\nB\n'
+    refused_text "line 2, column 5: $number" 'pins 4\nA 0 1,\nB\n'
+    refused_text "line 3, column 3: $number" 'pins 4\nA 0\nB +0\n'
+    refused_text "line 1, column 10: pin above 255" 'pins 255 256\nA\nB\n'
+    refused_text "line 1, column 6: pin above 255" 'pins 18446744073709551616\nA\nB\n'
+    refused_text "line 2, column 3: wire position above 31" 'pins 4\nA 32\nB\n'
+    refused_text "line 3, column 5: wire position above 31" 'pins 4\nA 0\nB 0 4294967296\n'
+    refused_text "line 2, column 7: wire position twice in its line" 'pins 4 7\nA 1 0 1\nB\n'
+    refused_text "line 3, column 6: wire position twice in its line" 'pins 4 7\nA\nB 31 031\n'
+    refused_text "line 4, column 6: $term" "${head}rule 1\n"
+    refused_text "line 4, column 9: $term" "${head}rule +0 C\n"
+    refused_text "line 4, column 6: $term" "${head}rule +\n"
+    refused_text "line 4, column 6: $term" "${head}rule --A\n"
+    refused_text "line 4, column 6: $term" "${head}rule AB\n"
+    refused_text "line 5, column 9: $term" "${head}rule A\nrule -B +1x\n"
+    refused_text "line 4, column 6: wire not below the number of pins" "${head}rule +2\n"
+    refused_text "line 4, column 8: wire not below the number of pins" "${head}rule A -3\n"
+    refused_text "line 4, column 6: wire not below the number of pins" 'pins\nA\nB\nrule -0\n'
+    refused_text "line 4, column 6: wire not below the number of pins" "${head}rule +9223372036854775808\n"
+    refused_text "line 4, column 11: term twice in its rule" "${head}rule +1 A +1\n"
+    refused_text "line 4, column 9: term twice in its rule" "${head}rule -B -B\n"
+    refused_text "line 5, column 8: term twice in its rule" "${head}rule A\nrule A +A\n"
+    refused_text "line 1, column 7: control byte" 'pins 4\x00\nA\nB\n'
+    refused_text "line 2, column 2: control byte" 'pins 4\nA\r0\nB\n'
+    refused_text "line 3, column 2: control byte" 'pins 4\nA\nB\r'
+    refused_text "line 3, column 3: control byte" 'pins 4\nA\n# \x1b comment\nB\n'
+    refused_text "line 1, column 1: control byte" '\x7fpins\nA\nB\n'
+    refused_text "line 1, column 1: $word" '\xef\xbb\xbfpins\nA\nB\n'
+    # The form is judged before what the text describes, however early that stands.
+    refused_text "line 5, column 6: $term" 'pins 7 4\nA 9\nB 9\nrule A\nrule x\n'
+}
+
+# Texts of the right form that the library refuses: code, section and place, and the line and column of the entry.
+bad_descriptions() {
+    local count='count above its limit' high='wire position or term not below its limit' rule
+    local rising='entry not above the one before' twelve='pins 0 1 2 3 4 5 6 7 8 9 10 11'
+    refused_text "code 2 in section 1, line 1, column 32: $count" "$twelve 12\nA\nB\n"
+    refused_text "code 2 in section 1, line 2, column 32: $count" "#\n$twelve 0 0 0 0\nA\nB\nrule +0 -1 -15 A -A B -B\n"
+    refused_text "code 3 in section 1 at entry 1, line 1, column 8: $rising" 'pins 7 4\nA\nB\n'
+    refused_text "code 3 in section 1 at entry 2, line 2, column 10: $rising" '\npins 4 7\t7\nA\nB\n'
+    refused_text "code 2 in section 2, line 2, column 3: $count" "$twelve\nA 8 7 6 5 4 3 2 1 0\nB\n"
+    refused_text "code 2 in section 2, line 2, column 5: $count" 'pins\nA 9 8 0 1 2 3 4 5 6 7\nB\n'
+    refused_text "code 4 in section 2 at entry 1, line 2, column 7: $high" 'pins 4 7\nA 9 0 5\nB\n'
+    refused_text "code 4 in section 2 at entry 0, line 2, column 3: $high" 'pins\nA 31\nB\n'
+    refused_text "code 2 in section 3, line 3, column 20: $count" "$twelve\nA 0\nB 31 7 6 5 4 3 2 1 11 0\n"
+    refused_text "code 4 in section 3 at entry 2, line 4, column 3: $high" 'pins 4 7\nA 0\n\nB 5 1 0 9\n'
+    refused_text "code 4 in section 3 at entry 0, line 3, column 3: $high" 'pins 4\nA 0\nB 1\nrule A\n'
+    { printf 'pins\nA\nB\n'; for rule in {1..256}; do echo rule A; done; } >"$folder/rules"
+    expect '256 rules' "$(ormsvelg write "$folder/rules" | sed -n '1p;5p;$p')" $'sheet of 517 bytes\nrules 256\nrule 255: A is 1'
+    printf '\n rule # too many\nrule\n' >>"$folder/rules"
+    says 1 "refused: code 2 in section 4, line 261, column 2: $count" -- write "$folder/rules"
+}
+
+# The longest sheet, the longest text, and files far longer than any text.
+long_texts() {
+    local rule terms
+    terms=$(printf ' +%s' {0..11} A B; printf ' -%s' {0..11} A B)
+    { echo pins {0..11}; echo A {0..7}; echo B {7..0}; for rule in {1..256}; do echo "rule$terms"; done; } >"$folder/text"
+    expect 'the longest sheet' "$(ormsvelg write "$folder/text" -o "$folder/made" | sed -n '1p;$=')" $'sheet of 7457 bytes\n261'
+    expect 'the longest sheet is read' "$(ormsvelg read "$folder/made" | head -n 1)" accepted
+    rm "$folder/made"
+    { printf 'pins\nA\nB\n#'; head -c 65526 /dev/zero | tr '\0' x; } >"$folder/text"
+    expect 'the longest text' "$(wc -c <"$folder/text") $(ormsvelg write "$folder/text" | head -n 1)" '65536 sheet of 5 bytes'
+    printf x >>"$folder/text"
+    says 1 'refused: line 4, column 65528: text longer than 65,536 bytes' -- write "$folder/text"
+    says 1 'refused: line 1, column 65537: text longer than 65,536 bytes' -- write /dev/zero
+    { printf pins; yes ' 0' | head -n 32760 | tr -d '\n'; printf '\nA\nB\n'; } >"$folder/text"
+    says 1 'refused: code 2 in section 1, line 1, column 30: count above its limit' -- write "$folder/text"
+    { printf 'pins\nA\nB\n'; yes rule | head -n 13104; printf rule; } >"$folder/text"
+    says 1 'refused: code 2 in section 4, line 260, column 1: count above its limit' -- write "$folder/text"
+}
+
 uses() {
-    expect '--help' "$(ormsvelg --help | grep -c '^  ormsvelg ')" 5
+    expect '--help' "$(ormsvelg --help | grep -c '^  ormsvelg ')" 6
     expect '--version' "$(ormsvelg --version | grep -cxE 'ormsvelg [0-9]+\.[0-9]+\.[0-9]+')" 1
     fails 'a command is missing' --
     fails 'unknown command: solv' -- solv examples/J2.job
     fails 'unknown option: -x' -- read -x
     fails 'unknown option: --help' -- read --help
-    fails 'a sheet is missing' -- read
-    fails 'a sheet is missing' -- solve -o "$folder/none"
-    fails 'a sheet is missing' -- check examples/J2.job
-    fails 'a sheet is missing' -- widen examples/J6.job examples/J6.wide.job
+    fails 'a file is missing' -- read
+    fails 'a file is missing' -- solve -o "$folder/none"
+    fails 'a file is missing' -- check examples/J2.job
+    fails 'a file is missing' -- widen examples/J6.job examples/J6.wide.job
+    fails 'a file is missing' -- write -o "$folder/none"
     fails 'one word too many: examples/J2.job' -- read examples/J1.job examples/J2.job
+    fails 'one word too many: examples/J2.job' -- write examples/J2.text examples/J2.job
     fails '-o wants a file' -- solve examples/J2.job -o
     fails '-o wants a file, not -' -- solve examples/J2.job -o -
     fails '-o is given twice' -- solve -o "$folder/none" -o "$folder/none" examples/J2.job
@@ -175,10 +313,16 @@ standard_input() {
     says 0 'tables fit' 'A 00' 'B 11' -- check examples/J2.job -
     input=examples/J6.wide.job
     says 0 'tables fit' 'A 00' 'B 01' -- widen examples/J6.job - examples/J6.answer
+    input=examples/J2.text
+    says 0 'sheet of 14 bytes' 'wires 1, on pins 4' 'A sees wires 0, rows 2' 'B sees wires 0, rows 2' 'rules 2' \
+        'rule 0: A is 1 or B is 1' 'rule 1: A is 0 or B is 0' -- write -
     input=/
     fails 'cannot read standard input: Is a directory' -- read -
+    fails 'cannot read standard input: Is a directory' -- write -
     input=/dev/null
     expect 'a pipe' "$(cat examples/J2.job | ormsvelg solve - | tr '\n' ' ')" 'tables fit A 00 B 11 '
+    expect 'a pipe of a text' "$(ormsvelg write - -o /dev/stderr 2>&1 >/dev/null <examples/J2.text | ormsvelg solve - | tr '\n' ' ')" \
+        'tables fit A 00 B 11 '
     expect 'no standard input' "$(ormsvelg read - <&- 2>&1; echo "status $?")" \
         $'ormsvelg: cannot read standard input: Bad file descriptor\nstatus 2'
 }
@@ -189,6 +333,8 @@ unreadable() {
     fails "cannot read $folder/none: No such file or directory" -- solve "$folder/none"
     fails "cannot read $folder/none: No such file or directory" -- check examples/J2.job "$folder/none"
     fails "cannot read $folder/none: No such file or directory" -- widen examples/J6.job "$folder/none" examples/J6.answer
+    fails "cannot read $folder/none: No such file or directory" -- write "$folder/none"
+    fails 'cannot read examples: Is a directory' -- write examples
     fails 'cannot read examples/J2.job/x: Not a directory' -- read examples/J2.job/x
     fails 'cannot read : No such file or directory' -- read ''
     # A file that opens, and whose first byte fails.
@@ -205,6 +351,8 @@ writes() {
     expect 'the answer sheet' "$(cmp "$folder/out/J2" examples/J2.answer && echo same)" same
     says 0 'tables fit' 'A 00' 'B 01' -- widen -o "$folder/out/J2" examples/J6.job examples/J6.wide.job examples/J6.answer
     expect 'a target that was there' "$(cmp "$folder/out/J2" examples/J6.wide.answer && echo same)" same
+    ormsvelg write -o "$folder/out/J2" examples/J2.text >/dev/null
+    expect 'a job sheet in its place' "$(cmp "$folder/out/J2" examples/J2.job && echo same)" same
     chmod 640 "$folder/out/J2"
     ln -s J2 "$folder/out/link"
     says 0 'tables fit' 'A 0' 'B 0' -- solve examples/J1.job -o "$folder/out/link"
@@ -230,8 +378,15 @@ unwritable() {
     fails "cannot write $folder/none/answer: No such file or directory" -- solve examples/J2.job -o "$folder/none/answer"
     fails 'cannot write examples/J2.job/x: Not a directory' -- solve examples/J2.job -o examples/J2.job/x
     fails 'cannot write : No such file or directory' -- solve examples/J2.job -o ''
-    fails "-o names a sheet that is read: $folder/out/job" -- solve "$folder/out/job" -o "$folder/out/job"
-    fails "-o names a sheet that is read: $folder/out/kept" -- widen examples/J5.job examples/J5.job "$folder/out/kept" -o "$folder/out/kept"
+    fails "-o names a file that is read: $folder/out/job" -- solve "$folder/out/job" -o "$folder/out/job"
+    fails "-o names a file that is read: $folder/out/kept" -- widen examples/J5.job examples/J5.job "$folder/out/kept" -o "$folder/out/kept"
+    cp examples/J2.text "$folder/out/text"
+    fails "-o names a file that is read: $folder/out/text" -- write "$folder/out/text" -o "$folder/out/text"
+    ln -s text "$folder/out/link"
+    fails "-o names a file that is read: $folder/out/link" -- write "$folder/out/text" -o "$folder/out/link"
+    expect 'the text' "$(cmp "$folder/out/text" examples/J2.text && echo same)" same
+    rm "$folder/out/text" "$folder/out/link"
+    fails 'cannot write /dev/full: No space left on device' -- write examples/J2.text -o /dev/full
     # A file that may hold no byte stands for a disk that fills up while the answer is written.
     expect 'a disk that fills up' "$(ulimit -f 0; ormsvelg solve examples/J2.job -o "$folder/out/kept" 2>&1; echo "status $?")" \
         "ormsvelg: cannot write $folder/out/kept: File too large"$'\nstatus 2'
@@ -240,6 +395,10 @@ unwritable() {
     says 1 'refused: code 5 on sheet 1 at byte 5: bytes left over' -- solve /dev/zero -o "$folder/out/kept"
     says 1 'refused: code 15 on sheet 2: answer is a walk where tables are needed' \
         -- widen examples/J7.job examples/J6.job examples/J7.walk.answer -o "$folder/out/new"
+    says 1 'refused: line 1, column 1: control byte' -- write examples/J2.job -o "$folder/out/kept"
+    printf 'pins 7 4\nA\nB\n' >"$folder/text"
+    says 1 'refused: code 3 in section 1 at entry 1, line 1, column 8: entry not above the one before' \
+        -- write "$folder/text" -o "$folder/out/new"
     if [ "$(id -u)" -ne 0 ]; then
         chmod 444 "$folder/out/kept"
         fails "cannot write $folder/out/kept: Permission denied" -- solve examples/J2.job -o "$folder/out/kept"
@@ -254,7 +413,8 @@ unwritable() {
 # Standard output on a full disk, or closed: an error, for short words and for long ones.
 full_output() {
     local words
-    for words in '--help' '--version' 'read examples/J2.job' 'solve examples/J3.job' "read $folder/many_rules"; do
+    for words in '--help' '--version' 'read examples/J2.job' 'solve examples/J3.job' 'write examples/J2.text' \
+        "read $folder/many_rules"; do
         # shellcheck disable=SC2086
         expect "$words to a full disk" "$(ormsvelg $words 2>&1 >/dev/full; echo "status $?")" \
             $'ormsvelg: cannot write standard output: No space left on device\nstatus 2'
@@ -268,6 +428,10 @@ examples
 walks
 refusals
 sizes
+texts
+bad_texts
+bad_descriptions
+long_texts
 uses
 standard_input
 unreadable

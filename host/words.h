@@ -128,7 +128,7 @@ static inline const char *reason(uint32_t code)
     case ORMSVELG_NOT_RISING: return "entry not above the one before";
     case ORMSVELG_TOO_HIGH: return "wire position or term not below its limit";
     case ORMSVELG_LEFT_OVER: return "bytes left over";
-    case ORMSVELG_NO_ROOM: return "buffer under 8,190 bytes";
+    case ORMSVELG_NO_ROOM: return "lent buffer too short";
     case ORMSVELG_WRONG_LENGTH: return "answer ends early or has bytes over";
     case ORMSVELG_OTHER_KIND: return "count that fits neither tables nor a walk for this job";
     case ORMSVELG_NOT_A_BIT: return "table byte above 1";

@@ -1,6 +1,7 @@
 /* ormsvelg.h: the bench's face of the proved library, libormsvelg.a (x86-64).
  * A call takes lent buffers, each a pointer and a length, and hands back one outcome as a 64-bit number.
- * A null pointer with length 0 is an empty buffer: an empty job, refused with 1 at place 0, or an empty answer.
+ * A null pointer with length 0 is an empty buffer: an empty job, refused with 1 at place 0, an empty answer, or an
+ * empty list of pins or rules.
  * Lent buffers do not overlap. The functions keep no state and write nothing but the lent buffers.
  */
 #ifndef ORMSVELG_H
@@ -26,16 +27,18 @@
 #define ORMSVELG_LONGEST_ANSWER 8190
 
 /* Codes. Successes have sheet and place 0. The place of each refusal stands beside it. */
-#define ORMSVELG_ACCEPTED 0      /* reader: sheet accepted */
+#define ORMSVELG_ACCEPTED 0      /* reader: sheet accepted; writer: sheet written */
 #define ORMSVELG_TABLES 20       /* solver, checker, widener: tables that fit */
 #define ORMSVELG_WALK 21         /* solver, checker: a walk that stands */
-/* Refusals of a job. The first fault on the sheet decides. */
+/* Refusals of a job. The first fault on the sheet decides. The writer's 2, 3 and 4 have the description's section, 1 to
+ * 4, as sheet and an entry's number, from 0, as place; for the number of a section's entries the place is 0. */
 #define ORMSVELG_ENDS 1          /* job ends where a byte is called for: its length */
 #define ORMSVELG_TOO_MANY 2      /* count above its limit: the count's first byte */
 #define ORMSVELG_NOT_RISING 3    /* entry not above the one before: its offset */
 #define ORMSVELG_TOO_HIGH 4      /* wire position not below n, or term not below 2n+4: its offset */
 #define ORMSVELG_LEFT_OVER 5     /* bytes left over in a job: the first of them */
-#define ORMSVELG_NO_ROOM 6       /* answer buffer under ORMSVELG_LONGEST_ANSWER bytes, sheet 0: 0 */
+#define ORMSVELG_NO_ROOM 6       /* answer buffer under ORMSVELG_LONGEST_ANSWER bytes, or sheet buffer shorter than the
+                                  * sheet to be written, sheet 0: 0 */
 /* Refusals of an answer, sheet 2: first 7, 8, 9 and 11 in reading order, then 10, or 12 and then 13. */
 #define ORMSVELG_WRONG_LENGTH 7  /* answer ends early, or has bytes over: its length, or the first of them */
 #define ORMSVELG_OTHER_KIND 8    /* count of neither permitted kind after the counts before it: its first byte */
@@ -69,6 +72,17 @@ uint64_t ormsvelg_solve(const uint8_t *job, size_t job_len, uint8_t *answer, siz
  * answer's 7 to 13 (sheet 2), 15, 14, ORMSVELG_NO_ROOM; every byte stays. */
 uint64_t ormsvelg_widen(const uint8_t *p, size_t p_len, const uint8_t *q, size_t q_len,
                         const uint8_t *answer, size_t answer_len, uint8_t *out, size_t out_len);
+
+/* Writes the job sheet of a description: the pins, a byte for each of the n = pins_len wires; the wires that A and B
+ * see, wire p with weight 2^p; and rules_len rules, each the mask of its terms, term t with weight 2^t. Term 2p says that
+ * wire p is 1, 2n that A is 1, 2n+2 that B is 1; the odd term after each says 0. `rules` is aligned as C aligns uint32_t.
+ * ORMSVELG_ACCEPTED: the sheet is at the front of `sheet`, where exactly its length is enough; bytes beyond it stay. Else
+ * the first of these, and every byte stays. Section 1: 2 for more than 12 pins; 3 for a pin not above the one before, at
+ * its index. Section 2, what A sees: 2 for more than 8 wires; 4 for the first not below n, at its index in the rising set.
+ * Section 3: B likewise. Section 4: 2 for more than 256 rules; then for each rule, at its number, 2 for more than 2n+4
+ * terms, or 4 for a term not below 2n+4. Last ORMSVELG_NO_ROOM. */
+uint64_t ormsvelg_write(const uint8_t *pins, size_t pins_len, uint32_t sees_a, uint32_t sees_b,
+                        const uint32_t *rules, size_t rules_len, uint8_t *sheet, size_t sheet_len);
 
 #ifdef __cplusplus
 }
