@@ -8,6 +8,7 @@
 typedef unsigned char byte;
 typedef unsigned long size;    /* size_t on 64-bit Linux */
 typedef unsigned long outcome; /* uint64_t on 64-bit Linux */
+typedef unsigned int mask;     /* uint32_t on 64-bit Linux */
 
 extern long read(int file, void *bytes, size length);
 extern long write(int file, const void *bytes, size length);
@@ -19,6 +20,8 @@ extern outcome ormsvelg_check(const byte *job, size job_len, const byte *answer,
 extern outcome ormsvelg_solve(const byte *job, size job_len, byte *answer, size answer_len);
 extern outcome ormsvelg_widen(const byte *p, size p_len, const byte *q, size q_len, const byte *answer, size answer_len,
                               byte *out, size out_len);
+extern outcome ormsvelg_write(const byte *pins, size pins_len, mask sees_a, mask sees_b, const mask *rules, size rules_len,
+                              byte *sheet, size sheet_len);
 
 enum {
     SLICES = 4,           /* the most slices that one call takes */
@@ -31,13 +34,16 @@ enum {
 
 static const byte guard[GUARDS] = {0xC5, 0x3A, 0x96, 0x01};
 
-/* A lent slice between its guards, and the bytes it had before the call. */
+/* A lent slice between its guards, and the bytes it had before the call.
+   The place is aligned for masks, and so is the slice behind its guards: a slice of masks is lent as it lies. */
 struct lent {
     size length;
     int as_null;
-    byte place[GUARDS + LONGEST + GUARDS];
+    _Alignas(mask) byte place[GUARDS + LONGEST + GUARDS];
     byte before[LONGEST];
 };
+
+_Static_assert(sizeof(mask) == 4 && GUARDS % _Alignof(mask) == 0, "the guards keep masks aligned");
 
 static struct lent lents[SLICES];
 static byte input[BUFFER], output[BUFFER];
@@ -115,13 +121,22 @@ static void put_bytes(const byte *from, size length)
     }
 }
 
+/* A number of 4 bytes, low byte first. */
+static size number_of(const byte *bytes)
+{
+    size number = 0;
+    int i;
+    for (i = 0; i < 4; i++) number |= (size)bytes[i] << (8 * i);
+    return number;
+}
+
 /* Takes one slice from the request and lays it between guards. Every second empty slice is lent as a null pointer. */
 static void take(struct lent *lent)
 {
     byte number[4];
-    size length = 0, i;
+    size length;
     take_bytes(number, 4);
-    for (i = 0; i < 4; i++) length |= (size)number[i] << (8 * i);
+    length = number_of(number);
     if (length > LONGEST) fail(BAD_REQUEST, "drive: a slice is too long\n");
     lent->length = length;
     lent->as_null = 0;
@@ -192,6 +207,21 @@ static void respond(outcome got, int slices, int written)
     for (i = slices - written; i < slices; i++) put_bytes(lents[i].place + GUARDS, length_of(i));
 }
 
+/* Makes a job sheet: the pins, the masks of what A and B see in one slice, the rules' masks, the lent sheet.
+   A mask is low byte first, as this machine has it. */
+static void serve_sheet(void)
+{
+    const byte *sees = lents[1].before;
+    const mask *rules;
+    take_slices(4);
+    if (length_of(1) != 2 * sizeof(mask)) fail(BAD_REQUEST, "drive: a request without two masks\n");
+    if (length_of(2) % sizeof(mask) != 0) fail(BAD_REQUEST, "drive: a request with part of a rule\n");
+    rules = (const mask *)(const void *)bytes_of(2);
+    respond(ormsvelg_write(bytes_of(0), length_of(0), (mask)number_of(sees), (mask)number_of(sees + sizeof(mask)), rules,
+                           length_of(2) / sizeof(mask), bytes_of(3), length_of(3)),
+            4, 1);
+}
+
 /* Serves one request. A call more is a declaration above and a case here. */
 static void serve(byte op)
 {
@@ -213,6 +243,9 @@ static void serve(byte op)
         respond(ormsvelg_widen(bytes_of(0), length_of(0), bytes_of(1), length_of(1), bytes_of(2), length_of(2),
                                bytes_of(3), length_of(3)),
                 4, 1);
+        break;
+    case 'j':
+        serve_sheet();
         break;
     default:
         fail(BAD_REQUEST, "drive: a request with an unknown op\n");

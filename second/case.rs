@@ -2,9 +2,12 @@
 // A call brings its own cases and its own judgement of them; the comparison itself knows neither sheets nor rules.
 // It leans on random and outcome.
 
-use crate::outcome::{Outcome, TABLES, WALK};
+use crate::outcome::{Outcome, WALK};
 use crate::random::Random;
 use std::fmt;
+
+/// The longest slice that the command takes.
+pub const LONGEST_SLICE: usize = 65536;
 
 /// The count of cases for a call whose cases are quick.
 pub const USUAL_COUNT: usize = 200_000;
@@ -17,8 +20,8 @@ pub struct Case {
 
 pub enum Known {
     Outcome(Outcome),
-    /// Success with these tables, as their answer sheet.
-    Tables(Vec<u8>),
+    /// Success with this code, writing exactly this sheet.
+    Wrote(u8, Vec<u8>),
     /// Success with a walk, whichever.
     Walk,
 }
@@ -27,8 +30,8 @@ impl Known {
     pub fn agrees(&self, response: &Response) -> bool {
         match self {
             Known::Outcome(outcome) => response.outcome == *outcome,
-            Known::Tables(sheet) => {
-                response.outcome == Outcome::wrote(TABLES, sheet.len()) && response.after[0].starts_with(sheet)
+            Known::Wrote(code, sheet) => {
+                response.outcome == Outcome::wrote(*code, sheet.len()) && response.after[0].starts_with(sheet)
             }
             Known::Walk => response.outcome.code == WALK as u64,
         }
@@ -39,7 +42,7 @@ impl fmt::Display for Known {
     fn fmt(&self, out: &mut fmt::Formatter) -> fmt::Result {
         match self {
             Known::Outcome(outcome) => write!(out, "{outcome}"),
-            Known::Tables(sheet) => write!(out, "the tables {}", to_hex(sheet)),
+            Known::Wrote(code, sheet) => write!(out, "code {code} with the sheet {}", to_hex(sheet)),
             Known::Walk => write!(out, "a walk"),
         }
     }
@@ -55,7 +58,7 @@ pub struct Response {
 /// The response that this program comes to.
 pub struct Judgement {
     pub expected: Response,
-    /// What is wrong with an answer of which several are right.
+    /// What is wrong with what the command wrote: an answer of which several are right, or a sheet read back.
     pub fault: Option<String>,
 }
 
@@ -90,7 +93,8 @@ pub struct Call {
     pub named: fn(&mut Random) -> Vec<Case>,
     /// One random case, or some that belong together.
     pub make: fn(&mut Random) -> Vec<Case>,
-    /// What this program makes of the slices. The command's own response counts where several answers are right.
+    /// What this program makes of the slices. The command's own response counts where several answers are right,
+    /// and where what it wrote is read back.
     pub judge: fn(&[Vec<u8>], &Response) -> Judgement,
 }
 

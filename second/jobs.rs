@@ -2,18 +2,17 @@
 // About a third is accepted, a half is damaged in one place, the rest is random bytes and sheets beyond all lengths.
 // It leans on make, damage and read.
 
-use crate::case::{hex, Call, Case, Judgement, Known, USUAL_COUNT};
+use crate::case::{hex, Call, Case, Judgement, Known, LONGEST_SLICE, USUAL_COUNT};
 use crate::damage::{damage, Damaged};
 use crate::job::{JobSheet, LONGEST_JOB};
 use crate::make::{longest_job, random_job};
 use crate::named::ALL;
-use crate::outcome::{Outcome, Refusal, JOB};
+use crate::outcome::{Outcome, Refusal, ACCEPTED, JOB};
 use crate::random::Random;
 use crate::read::{read_job, read_outcome};
 
 /// So many bytes decide the outcome of any longer sheet.
 const DECIDING: usize = LONGEST_JOB + 1;
-const LONGEST_SLICE: usize = 65536;
 
 pub const READER: Call = Call {
     op: b'r',
@@ -102,7 +101,7 @@ fn case(bytes: Vec<u8>, known: Option<Outcome>) -> Case {
 }
 
 fn accepted(bytes: Vec<u8>) -> Case {
-    case(bytes, Some(Outcome::success(0)))
+    case(bytes, Some(Outcome::success(ACCEPTED)))
 }
 
 fn refused(bytes: Vec<u8>, code: u8, place: usize) -> Case {

@@ -1,7 +1,7 @@
-// The second program: makes cases, judges each by document 01 alone, and compares with the proved library.
+// The second program: makes cases, judges each by the papers alone, and compares with the proved library.
 // It is written apart from the library, so that an error in both at the same place is unlikely.
 // Usage: compare [--seed N] [--count N] -- COMMAND ARGS..   The command speaks the protocol of host/drive.c.
-// It leans on jobs, answers, tasks and widenings for the cases and on pipe for the command.
+// It leans on jobs, answers, tasks, widenings and descriptions for the cases and on pipe for the command.
 
 mod answer;
 mod answers;
@@ -9,6 +9,9 @@ mod board;
 mod case;
 mod check;
 mod damage;
+mod description;
+mod descriptions;
+mod distort;
 mod expand;
 mod job;
 mod jobs;
@@ -28,6 +31,7 @@ mod ties;
 mod widen;
 mod widenings;
 mod wider;
+mod write;
 
 use case::{to_hex, Call, Case, Judgement, Response};
 use outcome::{TABLES, WALK};
@@ -38,7 +42,14 @@ use std::process::ExitCode;
 use std::sync::mpsc::{channel, Receiver, Sender};
 use std::thread;
 
-const CALLS: &[Call] = &[jobs::READER, answers::CHECKER, tasks::SOLVER, widenings::WIDENER];
+const CALLS: &[Call] = &[
+    jobs::READER,
+    answers::CHECKER,
+    tasks::SOLVER,
+    widenings::WIDENER,
+    descriptions::WRITER,
+    descriptions::WRITTEN,
+];
 
 const USAGE: &str = "usage: compare [--seed N] [--count N] -- COMMAND ARGS..";
 const SEED: u64 = 1;

@@ -18,6 +18,8 @@ pub struct Outcome {
     pub written: u64,
 }
 
+/// A sheet was read or written.
+pub const ACCEPTED: u8 = 0;
 pub const TABLES: u8 = 20;
 pub const WALK: u8 = 21;
 
@@ -34,7 +36,7 @@ impl Outcome {
         Outcome { code: code as u64, sheet: 0, place: 0, written: 0 }
     }
 
-    /// A success that writes an answer sheet of so many bytes.
+    /// A success that writes a sheet of so many bytes.
     pub fn wrote(code: u8, bytes: usize) -> Outcome {
         Outcome { written: bytes as u64, ..Outcome::success(code) }
     }
@@ -43,7 +45,7 @@ impl Outcome {
         Outcome { code: refusal.code as u64, sheet, place: refusal.place as u64, written: 0 }
     }
 
-    /// The answer buffer is too short.
+    /// The lent buffer is too short.
     pub fn no_room() -> Outcome {
         Outcome::refused(Refusal { code: NO_ROOM, place: 0 }, NO_SHEET)
     }

@@ -4,12 +4,12 @@
 // It leans on job and outcome.
 
 use crate::job::{term_limit, Job, MOST_RULES, MOST_SEEN, MOST_WIRES};
-use crate::outcome::{Outcome, Refusal, JOB};
+use crate::outcome::{Outcome, Refusal, ACCEPTED, JOB};
 
 const ENDS_EARLY: u8 = 1;
-const COUNT_TOO_HIGH: u8 = 2;
-const NOT_RISING: u8 = 3;
-const ENTRY_TOO_HIGH: u8 = 4;
+pub const COUNT_TOO_HIGH: u8 = 2;
+pub const NOT_RISING: u8 = 3;
+pub const ENTRY_TOO_HIGH: u8 = 4;
 const BYTES_OVER: u8 = 5;
 
 /// Every byte is below this, so it limits the pins no further.
@@ -58,7 +58,7 @@ pub fn read_job(sheet: &[u8]) -> Result<Job, Refusal> {
 /// What a call of the reader must answer.
 pub fn read_outcome(sheet: &[u8]) -> Outcome {
     match read_job(sheet) {
-        Ok(_) => Outcome::success(0),
+        Ok(_) => Outcome::success(ACCEPTED),
         Err(refusal) => Outcome::refused(refusal, JOB),
     }
 }

@@ -1,26 +1,28 @@
-// The room that a call has for its answer sheet: enough, or too little.
+// The room that a call has for what it writes: enough, or too little.
 // Just enough and one byte less are the most common.
-// It leans on random.
+// It leans on random and case.
 
+use crate::case::LONGEST_SLICE;
 use crate::random::Random;
 
-/// The longest answer sheet, and the room that is asked for.
+/// The longest answer sheet, and the room that is asked for one.
 pub const ROOM: usize = 8190;
-pub const MOST_ROOM: usize = 65536;
+pub const MOST_ROOM: usize = LONGEST_SLICE;
 
-pub fn enough_room(random: &mut Random) -> usize {
+/// Room where so many bytes are wanted.
+pub fn enough_room(wanted: usize, random: &mut Random) -> usize {
     match random.below(400) {
-        0 => random.within(ROOM, MOST_ROOM),
-        1..=100 => ROOM + random.within(1, 40),
-        _ => ROOM,
+        0 => random.within(wanted, MOST_ROOM),
+        1..=100 => wanted + random.within(1, 40),
+        _ => wanted,
     }
 }
 
-pub fn too_little_room(random: &mut Random) -> usize {
+pub fn too_little_room(wanted: usize, random: &mut Random) -> usize {
     match random.below(6) {
-        0 | 1 => ROOM - 1,
+        0 | 1 => wanted - 1,
         2 => 0,
-        3 => random.below(16),
-        _ => random.below(ROOM),
+        3 => random.below(wanted.min(16)),
+        _ => random.below(wanted),
     }
 }

@@ -39,11 +39,11 @@ pub const SOLVER: Call = Call {
 
 /// The paper's jobs with its answers. Several walks may stand, so a walk is only known to be one.
 fn named_tasks(random: &mut Random) -> Vec<Case> {
-    let tables = |a: &[u8], b: &[u8]| Known::Tables(Answer::Tables([a.to_vec(), b.to_vec()]).sheet());
+    let tables = |a: &[u8], b: &[u8]| Known::Wrote(TABLES, Answer::Tables([a.to_vec(), b.to_vec()]).sheet());
     let no_room = || Known::Outcome(Outcome::no_room());
     let of_job = |code, place| Known::Outcome(Outcome::refused(Refusal { code, place }, JOB));
     let cases = [
-        (J1, ROOM, Known::Tables(hex("01 00 00 01 00 00 00 00"))),
+        (J1, ROOM, Known::Wrote(TABLES, hex("01 00 00 01 00 00 00 00"))),
         (J2, ROOM, tables(&[0, 0], &[1, 1])),
         (J3, ROOM, Known::Walk),
         (J4, ROOM, Known::Walk),
@@ -77,7 +77,7 @@ fn random_tasks(random: &mut Random) -> Vec<Case> {
     let board = Board::of(job);
     let few = board.all_rows() <= FEW_ROWS && board.wires() <= FEW_WIRES;
     let known = few.then(|| by_trying(&board));
-    let room = enough_room(random);
+    let room = enough_room(ROOM, random);
     vec![case(sheet, room, known, random)]
 }
 
@@ -104,7 +104,7 @@ fn task_job(random: &mut Random) -> Job {
 fn refused_task(random: &mut Random) -> Case {
     let job = if random.once_in(2) { random_job(random) } else { tied_job(random) };
     let sheet = JobSheet::of(&job);
-    let room = too_little_room(random);
+    let room = too_little_room(ROOM, random);
     if random.once_in(4) {
         return case(sheet.bytes, room, Some(Known::Outcome(Outcome::no_room())), random);
     }
@@ -126,7 +126,7 @@ fn by_trying(board: &Board) -> Known {
         let (table_a, table_b) = values.split_at(board.rows(0));
         let sheet = Answer::Tables([table_a.to_vec(), table_b.to_vec()]).sheet();
         if check(board, &sheet) == Ok(TABLES) {
-            return Known::Tables(sheet);
+            return Known::Wrote(TABLES, sheet);
         }
     }
     Known::Walk

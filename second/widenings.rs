@@ -77,7 +77,7 @@ fn no_room() -> Known {
 
 /// The paper's widened job first, then jobs whose answers need not be the first pair.
 fn named_successes() -> Vec<Named> {
-    let fits = |a: &[u8], b: &[u8]| Known::Tables(tables(a, b));
+    let fits = |a: &[u8], b: &[u8]| Known::Wrote(TABLES, tables(a, b));
     vec![
         (J6, J6_WIDENED, tables(&[0], &[0, 1]), ROOM, fits(&[0, 0], &[0, 1])),
         (J6, J6_WIDENED, tables(&[1], &[0, 1]), MOST_ROOM, fits(&[1, 1], &[0, 1])),
@@ -225,7 +225,7 @@ fn random_widening(given: &Given, random: &mut Random) -> Case {
     let (q, q_part) = job_sheet(&JobSheet::of(&wider), JOB_Q, plan.q, random);
     let (right, _) = right_answer(&given.board, &given.expansion, random);
     let (answer, answer_part) = answer_sheet(given, &right, plan.answer, random);
-    let room = if plan.room { too_little_room(random) } else { enough_room(random) };
+    let room = if plan.room { too_little_room(ROOM, random) } else { enough_room(ROOM, random) };
 
     let kind_part = if let Answer::Walk(_) = right { Part::Wrong(walk_given()) } else { Part::Right };
     let asking_part = match (plan.asking, certain) {
@@ -238,7 +238,7 @@ fn random_widening(given: &Given, random: &mut Random) -> Case {
     let known = match parts.into_iter().find(|part| !matches!(part, Part::Right)) {
         Some(Part::Wrong(outcome)) => Some(Known::Outcome(outcome)),
         Some(_) => None,
-        None => Some(Known::Tables(grown_sheet(&given.job, &wider, &right))),
+        None => Some(Known::Wrote(TABLES, grown_sheet(&given.job, &wider, &right))),
     };
     case([p, q, answer], room, known, random)
 }

@@ -23,10 +23,12 @@ const char *const names[SIDES] = {"library", "plain", "best"};
 
 using sheet = std::vector<uint8_t>;
 
-/* What a call is lent, and the code that it must give. */
+/* What a call is lent, and the code that it must give; to the writer, what the job describes and room for its sheet. */
 struct lent {
     sheet job, wide, answer;
     uint32_t code;
+    ::job described = {};
+    size_t room = 0;
 };
 
 typedef uint64_t call(const lent &by, uint8_t *out);
@@ -52,16 +54,37 @@ template <auto &widen> uint64_t widens(const lent &by, uint8_t *out)
                  LONGEST_ANSWER);
 }
 
-/* The same work on each side; a side that has nothing of its own is null. */
+template <auto &write> uint64_t writes(const lent &by, uint8_t *out)
+{
+    const ::job &of = by.described;
+    return write(of.pins, of.wires, of.seen[0], of.seen[1], of.rules, of.rule_count, out, by.room);
+}
+
+/* Whether what was written is an answer for the last job lent. */
+bool answers(const lent &by, const uint8_t *out, size_t written)
+{
+    const sheet &job = by.wide.empty() ? by.job : by.wide;
+    return judge_answer(job.data(), job.size(), out, written);
+}
+
+/* Whether what was written is the job. */
+bool is_job(const lent &by, const uint8_t *out, size_t written)
+{
+    return written == by.job.size() && !memcmp(out, by.job.data(), written);
+}
+
+/* The same work on each side; a side that has nothing of its own is null. And the judge of what is written, if anything. */
 struct work {
     const char *name;
     call *sides[SIDES];
+    bool (*right)(const lent &by, const uint8_t *out, size_t written);
 };
 
-const work reading = {"read", {reads<ormsvelg_read>, reads<plain_read>, nullptr}};
-const work checking = {"check", {checks<ormsvelg_check>, checks<plain_check>, nullptr}};
-const work solving = {"solve", {solves<ormsvelg_solve>, solves<plain_solve>, solves<best_solve>}};
-const work widening = {"widen", {widens<ormsvelg_widen>, widens<plain_widen>, nullptr}};
+const work reading = {"read", {reads<ormsvelg_read>, reads<plain_read>, nullptr}, nullptr};
+const work checking = {"check", {checks<ormsvelg_check>, checks<plain_check>, nullptr}, nullptr};
+const work solving = {"solve", {solves<ormsvelg_solve>, solves<plain_solve>, solves<best_solve>}, answers};
+const work widening = {"widen", {widens<ormsvelg_widen>, widens<plain_widen>, nullptr}, answers};
+const work writing = {"write", {writes<ormsvelg_write>, writes<plain_write>, nullptr}, is_job};
 
 /* A line of the table: what is timed, and what is only tried, for the same outcome. */
 struct line {
@@ -80,11 +103,9 @@ bool same_outcome(uint64_t outcome, const uint8_t *out, uint64_t library, const 
     return outcome == library && !memcmp(out, library_out, outcome >> 40);
 }
 
-/* Whether what was written, if anything, is an answer for the last job lent. */
-bool right(const lent &by, uint64_t outcome, const uint8_t *out)
+bool right(const work &of, const lent &by, uint64_t outcome, const uint8_t *out)
 {
-    const sheet &job = by.wide.empty() ? by.job : by.wide;
-    return outcome >> 40 == 0 || judge_answer(job.data(), job.size(), out, outcome >> 40);
+    return outcome >> 40 == 0 || (of.right && of.right(by, out, outcome >> 40));
 }
 
 bool agree(const line &of, const lent &by)
@@ -93,10 +114,10 @@ bool agree(const line &of, const lent &by)
     uint64_t outcomes[SIDES];
     for (int side = 0; side < SIDES && of.of.sides[side]; side++) {
         outcomes[side] = of.of.sides[side](by, outs[side]);
-        if (outcomes[side] % 256 == by.code && right(by, outcomes[side], outs[side]) &&
+        if (outcomes[side] % 256 == by.code && right(of.of, by, outcomes[side], outs[side]) &&
             same_outcome(outcomes[side], outs[side], outcomes[0], outs[0]))
             continue;
-        printf("%s, %s: %s: outcome %016" PRIx64 ", library %016" PRIx64 ", wanted code %u, or the answer is wrong\n",
+        printf("%s, %s: %s: outcome %016" PRIx64 ", library %016" PRIx64 ", wanted code %u, or its bytes are wrong\n",
                of.of.name, of.name.c_str(), names[side], outcomes[side], outcomes[0], (unsigned)by.code);
         return false;
     }
@@ -192,6 +213,19 @@ line widen_line()
     return made;
 }
 
+/* With room for just the sheet. A byte less is too little, and a last rule with a term of no variable is refused. */
+line write_line(const char *name, const sheet &job)
+{
+    lent exact = {job, {}, {}, ORMSVELG_ACCEPTED, {}, job.size()};
+    plain_read_job(job.data(), job.size(), exact.described);
+    lent tight = exact, beyond = exact;
+    tight.code = ORMSVELG_NO_ROOM;
+    tight.room--;
+    beyond.code = ORMSVELG_TOO_HIGH;
+    beyond.described.rules[exact.described.rule_count - 1] = UINT32_C(1) << 31;
+    return {writing, name, {exact}, {tight, beyond}};
+}
+
 std::vector<line> lines()
 {
     sheet longest(ORMSVELG_LONGEST_JOB), ordinary(ORMSVELG_LONGEST_JOB);
@@ -206,6 +240,9 @@ std::vector<line> lines()
     for (const family &of : families())
         made.push_back(solve_line(of));
     made.push_back(widen_line());
+    made.push_back(write_line("longest sheet, 7457 bytes", longest));
+    made.push_back(write_line("ordinary sheet, 291 bytes", ordinary));
+    made.push_back(write_line("J3, 35 bytes", j3));
     return made;
 }
 

@@ -7,6 +7,7 @@
  *               1 claim. Each reached claim scans all combinations and drops those that show another row; no spread
  *               stops early
  *     widener   the tables are checked, each rule is looked for among P's, each row is copied from the row it widens
+ *     writer    the description is judged and its sheet measured, then each mask is written from its lowest bit up
  */
 #include "plain.h"
 
@@ -136,6 +137,7 @@ inline uint64_t read_job(const uint8_t *sheet, size_t length, job &job)
 /* ---- the checker */
 
 using bytes = std::span<const uint8_t>;
+using masks = std::span<const uint32_t>;
 
 /* Reads a section: a count, which must be `rows`, and as many bytes, each 0 or 1. Gives 0, or a refusal. */
 uint64_t read_section(bytes sheet, size_t &place, unsigned rows, bytes &table)
@@ -170,14 +172,14 @@ uint32_t true_terms(unsigned wires, uint32_t combination, uint32_t a, uint32_t b
     return terms;
 }
 
-bool breaks(std::span<const uint32_t> rules, uint32_t terms)
+bool breaks(masks rules, uint32_t terms)
 {
     return std::any_of(rules.begin(), rules.end(), [=](uint32_t rule) { return (rule & terms) == 0; });
 }
 
 uint64_t test_tables(const job &job, bytes table_a, bytes table_b)
 {
-    std::span<const uint32_t> rules(job.rules, job.rule_count);
+    masks rules(job.rules, job.rule_count);
     for (uint32_t combination = 0; combination < 1u << job.wires; combination++) {
         uint32_t a = table_a[row_shown(job.seen[0], combination)];
         uint32_t b = table_b[row_shown(job.seen[1], combination)];
@@ -392,7 +394,7 @@ bool asks_no_more(const job &p, const job &q)
 {
     if (p.wires != q.wires || memcmp(p.pins, q.pins, p.wires) || p.seen[0] & ~q.seen[0] || p.seen[1] & ~q.seen[1])
         return false;
-    std::span<const uint32_t> of_p(p.rules, p.rule_count), of_q(q.rules, q.rule_count);
+    masks of_p(p.rules, p.rule_count), of_q(q.rules, q.rule_count);
     return std::all_of(of_q.begin(), of_q.end(), [=](uint32_t wide) {
         return std::any_of(of_p.begin(), of_p.end(), [=](uint32_t rule) { return (rule & ~wide) == 0; });
     });
@@ -414,6 +416,70 @@ size_t write_wide(uint8_t *out, size_t at, bytes narrow, uint32_t seen, uint32_t
     for (uint32_t row = 0; row < rows; row++)
         out[at + row] = narrow[row_shown(seen, row_placed(wide, row))];
     return at + rows;
+}
+
+/* ---- the writer */
+
+/* The sections of a description, as refusals number them. */
+enum { PINS = 1, SEEN_BY_A, SEEN_BY_B, RULES };
+
+uint64_t judge_pins(bytes pins)
+{
+    if (pins.size() > MOST_WIRES)
+        return refusal(TOO_MANY, PINS, 0);
+    for (size_t wire = 1; wire < pins.size(); wire++)
+        if (pins[wire] <= pins[wire - 1])
+            return refusal(NOT_RISING, PINS, wire);
+    return ACCEPTED;
+}
+
+/* A position too high is named by the number of positions below it, which are all right. */
+uint64_t judge_seen(uint32_t seen, size_t wires, uint64_t section, size_t &length)
+{
+    unsigned count = (unsigned)__builtin_popcount(seen);
+    uint32_t right = seen & ((1u << wires) - 1);
+    length += 1 + count;
+    if (count > MOST_SEEN)
+        return refusal(TOO_MANY, section, 0);
+    if (right != seen)
+        return refusal(TOO_HIGH, section, (size_t)__builtin_popcount(right));
+    return ACCEPTED;
+}
+
+uint64_t judge_rules(masks rules, size_t wires, size_t &length)
+{
+    unsigned terms = 2 * (unsigned)wires + 4;
+    if (rules.size() > MOST_RULES)
+        return refusal(TOO_MANY, RULES, 0);
+    for (size_t rule = 0; rule < rules.size(); rule++) {
+        unsigned count = (unsigned)__builtin_popcount(rules[rule]);
+        if (rules[rule] >> terms != 0)
+            return refusal(count > terms ? TOO_MANY : TOO_HIGH, RULES, rule);
+        length += 1 + count;
+    }
+    length += 2;
+    return ACCEPTED;
+}
+
+/* The count is known once the entries are written. */
+inline size_t write_set(uint8_t *sheet, size_t at, uint32_t set)
+{
+    size_t count_at = at++;
+    for (; set != 0; set &= set - 1)
+        sheet[at++] = (uint8_t)__builtin_ctz(set);
+    sheet[count_at] = (uint8_t)(at - count_at - 1);
+    return at;
+}
+
+size_t write_job(uint8_t *sheet, bytes pins, uint32_t sees_a, uint32_t sees_b, masks rules)
+{
+    sheet[0] = (uint8_t)pins.size();
+    std::copy(pins.begin(), pins.end(), sheet + 1);
+    size_t at = write_set(sheet, 1 + pins.size(), sees_a);
+    at = put_two(sheet, write_set(sheet, at, sees_b), (unsigned)rules.size());
+    for (uint32_t rule : rules)
+        at = write_set(sheet, at, rule);
+    return at;
 }
 
 }
@@ -477,4 +543,22 @@ uint64_t plain_widen(const uint8_t *p, size_t p_len, const uint8_t *q, size_t q_
     for (int cell = 0; cell < 2; cell++)
         at = write_wide(out, at, tables[cell], narrow.seen[cell], wide.seen[cell]);
     return succeeded(TABLES, put_two(out, at, 0));
+}
+
+uint64_t plain_write(const uint8_t *pins, size_t pins_len, uint32_t sees_a, uint32_t sees_b, const uint32_t *rules,
+                     size_t rules_len, uint8_t *sheet, size_t sheet_len)
+{
+    size_t length = 1 + pins_len;
+    uint64_t outcome = judge_pins(bytes(pins, pins_len));
+    if (outcome == ACCEPTED)
+        outcome = judge_seen(sees_a, pins_len, SEEN_BY_A, length);
+    if (outcome == ACCEPTED)
+        outcome = judge_seen(sees_b, pins_len, SEEN_BY_B, length);
+    if (outcome == ACCEPTED)
+        outcome = judge_rules(masks(rules, rules_len), pins_len, length);
+    if (outcome != ACCEPTED)
+        return outcome;
+    if (sheet_len < length)
+        return NO_ROOM;
+    return succeeded(ACCEPTED, write_job(sheet, bytes(pins, pins_len), sees_a, sees_b, masks(rules, rules_len)));
 }

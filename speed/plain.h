@@ -26,4 +26,8 @@ uint64_t plain_check(const uint8_t *sheet, size_t sheet_len, const uint8_t *answ
 uint64_t plain_widen(const uint8_t *p, size_t p_len, const uint8_t *q, size_t q_len, const uint8_t *answer,
                      size_t answer_len, uint8_t *out, size_t out_len);
 
+/* For a description: the pins, what A and B see as masks, each rule as a mask. */
+uint64_t plain_write(const uint8_t *pins, size_t pins_len, uint32_t sees_a, uint32_t sees_b, const uint32_t *rules,
+                     size_t rules_len, uint8_t *sheet, size_t sheet_len);
+
 #endif
