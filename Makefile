@@ -13,7 +13,7 @@ SEED ?= 1
 # Without a count each call has its own.
 COUNT ?=
 
-VERSION = 0.1.0
+VERSION = 0.2.0
 PREFIX ?= /usr/local
 LIBRARY = target/staticlib/libormsvelg.a
 BENCH = target/bin/bench
