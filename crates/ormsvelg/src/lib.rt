@@ -3,8 +3,8 @@
 // What each call does is said below; only the packing is of this crate.
 use steps::Outcome;
 ghost use mathlib.Core.Path.{_≡_};
-ghost use Rattle.sheet.specs.JobSheet.{readOutcome};
 ghost use lib.ListN.{length};
+ghost use Rattle.sheet.specs.JobSheet.{readOutcome};
 ghost use Rattle.writer.specs.JobWritten.{described};
 ghost use Rattle.writer.specs.Writing.{writeOutcome, writeExit};
 ghost use Rattle.board.specs.Check.{checkOutcome};

@@ -19,6 +19,7 @@ use Rattle.answer.specs.Written.{Bytes}
 use Rattle.writer.specs.declared.Judged.the-variants.{Fine}
 use Rattle.writer.specs.JobWritten.{jobSheet, Describes}
 use Rattle.writer.specs.Writing.{judge, writeOutcome, writeExit}
+use Rattle.writer.proofs.Judging.{fine-outcome, fine-exit}
 use Rattle.writer.proofs.Masks.{rising-lt}
 use Rattle.writer.proofs.Sound.{rules-lt, fine-sound, sound-fine}
 use Rattle.writer.proofs.Small.{code-fine}
@@ -55,18 +56,10 @@ read-describes s j b ok =
 -- ---- the same over what the writer answers and leaves
 
 module _ (j : Job) (buf : List ℕ) where
-  fine-outcome : judge j (length buf) ≡ Fine → writeOutcome j (length buf) ≡ success 0 (length (jobSheet j))
-  unfolding writeOutcome
-  fine-outcome fine = rw fine
-
-  fine-exit : judge j (length buf) ≡ Fine → writeExit j buf ≡ jobSheet j ++ drop (length (jobSheet j)) buf
-  unfolding writeExit
-  fine-exit fine = rw fine
-
   pub written-back : Describes j → writeOutcome j (length buf) .code ≡ 0 → readJob (take (writeOutcome j (length buf) .written) (writeExit j buf)) ≡ accepted j
   written-back d ok =
       let fine = code-fine j (length buf) ok in
-      rw (fine-outcome fine, fine-exit fine, take-append-seam (jobSheet j) (drop (length (jobSheet j)) buf)) (write-read j (length buf) d fine)
+      rw (fine-outcome j buf fine, fine-exit j buf fine, take-append-seam (jobSheet j) (drop (length (jobSheet j)) buf)) (write-read j (length buf) d fine)
 
   pub written-accepted : Describes j → writeOutcome j (length buf) .code ≡ 0 → readOutcome (take (writeOutcome j (length buf) .written) (writeExit j buf)) ≡ success 0 0
   unfolding readOutcome

@@ -1,9 +1,8 @@
 -- Judging a description, part by part: what stops it, and how it goes on.
---     pins-.., seen-.., rule-.., rules-..     the parts of `judgePins`, `judgeSeen`, `judgeRule`, `judgeRules`
---     set-fine, set-amiss                     the entries of a set against their limit
+--     pins-.., set-.., rules-.., each-..      the parts of `judgePins`, `judgeSet`, `judgeRules`, `judgeEach`
 --     first-stops .. to-room                  the sections one after another
 --     pins-few, rules-few, judge-fine         what a part, or the whole, says where it is fine
---     fine-.., amiss-..                       the outcome, and what the buffer holds
+--     fine-.., stored-exit, amiss-..          the outcome, and what the buffer holds
 -- Assumes nothing.
 use mathlib.Core.Path.{_≡_, refl, sym, ap, _∙_}
 use mathlib.Core.Bool.{Bool, true, false}
@@ -17,15 +16,14 @@ use lib.Count.{ones}
 use lib.Dec.{leb}
 use lib.ListN.{length, getD, drop, drop-of-length-le}
 use lib.Seq.{sets, sets-eq, drop-cons}
-use Rattle.steps.specs.declared.Outcome.{Outcome}
 use Rattle.steps.specs.Outcome.{success, refusal}
 use Rattle.steps.specs.Step.{pick}
 use Rattle.sheet.specs.Job.{Job}
-use Rattle.sheet.specs.JobSheet.{wireLimit, seenLimit, ruleLimit, termsOf}
+use Rattle.sheet.specs.JobSheet.{wireLimit, ruleLimit, termsOf}
 use Rattle.writer.specs.declared.Judged.{Judged}
 use Rattle.writer.specs.declared.Judged.the-variants.{Fine, Amiss}
 use Rattle.writer.specs.JobWritten.{members, jobSheet}
-use Rattle.writer.specs.Writing.{_then_, within, pinsRise, allBelow, judgePins, judgeSeen, judgeRule, judgeEach, judgeRules, judgeRoom, judge, outcomeOf, exitOf, writeOutcome, writeExit}
+use Rattle.writer.specs.Writing.{_then_, within, pinsRise, allBelow, judgePins, judgeSet, judgeSeen, judgeRule, judgeEach, judgeRules, judgeRoom, judge, writeOutcome, writeExit}
 use Rattle.writer.proofs.Sets.{members-length, ones-high, below-all, below-first}
 
 -- ---- one part after another, x being what the first came to
@@ -62,57 +60,37 @@ module _ (pins : List ℕ) where
 
 -- ---- sets
 
-module _ (limit section : ℕ) (place : ℕ → ℕ) (m : ℕ) (h : m < 2 ^ 32) where
-  from-none : 0 + limit ≡ limit
-  from-none = omega arith
-
-  pub set-fine : m / 2 ^ limit ≡ 0 → allBelow limit section place 0 (members m) ≡ Fine
-  set-fine z = ap (λ (l : ℕ). allBelow l section place 0 (members m)) (sym from-none) ∙ below-all section place 32 0 limit 0 m h z
-
-  pub set-amiss : 0 < m / 2 ^ limit → allBelow limit section place 0 (members m) ≡ Amiss 4 section (place (length (members m) - length (members (m / 2 ^ limit))))
-  set-amiss l =
-      let small : m / 2 ^ limit < 2 ^ 32 = omega (arith, div-le-self m (2 ^ limit)) in
-      let index : 0 + (ones m - ones (m / 2 ^ limit)) ≡ length (members m) - length (members (m / 2 ^ limit)) = omega (arith, members-length 32 0 m h, members-length 32 0 (m / 2 ^ limit) small) in
-      ap (λ (l : ℕ). allBelow l section place 0 (members m)) (sym from-none) ∙ below-first section place 32 0 limit 0 m h l
-      ∙ ap (λ (i : ℕ). Amiss 4 section (place i)) index
-
 -- no more of a set's entries are at or above a limit than it has
 pub fewer : (limit m : ℕ) → m < 2 ^ 32 → length (members (m / 2 ^ limit)) ≤ length (members m)
 fewer limit m h =
     let small : m / 2 ^ limit < 2 ^ 32 = omega (arith, div-le-self m (2 ^ limit)) in
     omega (arith, members-length 32 0 m h, members-length 32 0 (m / 2 ^ limit) small, ones-high limit m)
 
-module _ (wires section seen : ℕ) where
-  pub seen-stop : (x : Judged) (c s p n : ℕ) → n ≡ length (members seen) → x ≡ within seenLimit section 0 n → x ≡ Amiss c s p → x ≡ judgeSeen wires section seen
-  unfolding judgeSeen
-  seen-stop x c s p n m e f = stops _ _ x c s p (e ∙ ap (within seenLimit section 0) m) f
+-- n is the count, and x what judging it came to
+module _ (most limit section first : ℕ) (place : ℕ → ℕ) (m : ℕ) (x : Judged) (n : ℕ) (many : n ≡ length (members m)) (e : x ≡ within most section first n) where
+  counts : x ≡ within most section first (length (members m))
+  counts = e ∙ ap (within most section first) many
 
-  module _ (x : Judged) (n : ℕ) (m : n ≡ length (members seen)) (e : x ≡ within seenLimit section 0 n) (f : x ≡ Fine) (h : seen < 2 ^ 32) where
-    seen-go : judgeSeen wires section seen ≡ allBelow wires section (λ i. i) 0 (members seen)
-    unfolding judgeSeen
-    seen-go = goes _ _ x (e ∙ ap (within seenLimit section 0) m) f
+  pub set-stop : (c s p : ℕ) → x ≡ Amiss c s p → x ≡ judgeSet most limit section first place m
+  unfolding judgeSet
+  set-stop c s p f = stops _ _ x c s p counts f
 
-    pub seen-fine : seen / 2 ^ wires ≡ 0 → Fine ≡ judgeSeen wires section seen
-    seen-fine z = sym (seen-go ∙ set-fine wires section (λ i. i) seen h z)
+  module _ (f : x ≡ Fine) (h : m < 2 ^ 32) where
+    from-none : 0 + limit ≡ limit
+    from-none = omega arith
 
-    pub seen-high : (k : ℕ) → k ≡ length (members (seen / 2 ^ wires)) → 0 < seen / 2 ^ wires → Amiss 4 section (n - k) ≡ judgeSeen wires section seen
-    seen-high k q l = rw (m, q) (sym (seen-go ∙ set-amiss wires section (λ i. i) seen h l))
+    set-go : judgeSet most limit section first place m ≡ allBelow (0 + limit) section place 0 (members m)
+    unfolding judgeSet
+    set-go = goes _ _ x counts f ∙ ap (λ (l : ℕ). allBelow l section place 0 (members m)) (sym from-none)
 
-module _ (terms number rule : ℕ) where
-  pub rule-stop : (x : Judged) (c s p n : ℕ) → n ≡ length (members rule) → x ≡ within terms 4 number n → x ≡ Amiss c s p → x ≡ judgeRule terms number rule
-  unfolding judgeRule
-  rule-stop x c s p n m e f = stops _ _ x c s p (e ∙ ap (within terms 4 number) m) f
+    pub set-fine : m / 2 ^ limit ≡ 0 → Fine ≡ judgeSet most limit section first place m
+    set-fine z = sym (set-go ∙ below-all section place 32 0 limit 0 m h z)
 
-  module _ (x : Judged) (n : ℕ) (m : n ≡ length (members rule)) (e : x ≡ within terms 4 number n) (f : x ≡ Fine) (h : rule < 2 ^ 32) where
-    rule-go : judgeRule terms number rule ≡ allBelow terms 4 (λ i. number) 0 (members rule)
-    unfolding judgeRule
-    rule-go = goes _ _ x (e ∙ ap (within terms 4 number) m) f
-
-    pub rule-fine : rule / 2 ^ terms ≡ 0 → Fine ≡ judgeRule terms number rule
-    rule-fine z = sym (rule-go ∙ set-fine terms 4 (λ i. number) rule h z)
-
-    pub rule-high : 0 < rule / 2 ^ terms → Amiss 4 4 number ≡ judgeRule terms number rule
-    rule-high l = sym (rule-go ∙ set-amiss terms 4 (λ i. number) rule h l)
+    pub set-high : (k : ℕ) → k ≡ length (members (m / 2 ^ limit)) → 0 < m / 2 ^ limit → Amiss 4 section (place (n - k)) ≡ judgeSet most limit section first place m
+    set-high k q l =
+        let small : m / 2 ^ limit < 2 ^ 32 = omega (arith, div-le-self m (2 ^ limit)) in
+        let index : 0 + (ones m - ones (m / 2 ^ limit)) ≡ n - k = omega (arith, members-length 32 0 m h, members-length 32 0 (m / 2 ^ limit) small) in
+        sym (set-go ∙ below-first section place 32 0 limit 0 m h l ∙ ap (λ (i : ℕ). Amiss 4 section (place i)) index)
 
 -- ---- rules
 
@@ -213,7 +191,7 @@ module _ (j : Job) (room : ℕ) where
           to-room f₄ v n m e₅ =
               e₅ ∙ ap (judgeRoom room) m ∙ sym (to-fourth ∙ goes (judgeRules (termsOf wires) (j .rules)) fifth w of-rules f₄)
 
--- ---- what the writer answers and leaves, x being what judging came to
+-- ---- what the writer answers and leaves
 
 pub judge-fine : (j : Job) (room : ℕ) → judge j room ≡ Fine → (length (j .pins) ≤ wireLimit) × (length (j .rules) ≤ ruleLimit) × (length (jobSheet j) ≤ room)
 unfolding judge judgeRoom
@@ -224,26 +202,26 @@ judge-fine j room h =
     let h₄ = then-fine (judgeRules (termsOf (length (j .pins))) (j .rules)) _ (h₃ .1) in
     (pins-few (j .pins) (h₁ .0), rules-few _ (j .rules) (h₄ .0), leb-true _ _ (picked-fine (leb (length (jobSheet j)) room) Fine 6 0 0 (h₄ .1) .0))
 
-module _ (j : Job) (buf : List ℕ) (x : Judged) (e : x ≡ judge j (length buf)) where
-  module _ (f : x ≡ Fine) where
-    pub fine-outcome : (o : Outcome) (n : ℕ) → n ≡ length (jobSheet j) → o ≡ success 0 n → o ≡ writeOutcome j (length buf)
-    unfolding writeOutcome
-    fine-outcome o n m g = g ∙ ap (success 0) m ∙ ap (λ (y : Judged). outcomeOf y (length (jobSheet j))) (sym f ∙ e)
+module _ (j : Job) (buf : List ℕ) (fine : judge j (length buf) ≡ Fine) where
+  pub fine-outcome : writeOutcome j (length buf) ≡ success 0 (length (jobSheet j))
+  unfolding writeOutcome
+  fine-outcome = rw fine
 
-    pub fine-exit : (after : List ℕ) → after ≡ sets buf 0 (jobSheet j) → after ≡ writeExit j buf
-    unfolding writeExit
-    fine-exit after g =
-        let room : length (jobSheet j) ≤ length buf = judge-fine j (length buf) (sym e ∙ f) .2 in
-        let from : 0 + length (jobSheet j) ≡ length (jobSheet j) = zero-add (length (jobSheet j)) in
-        let fits : 0 + length (jobSheet j) ≤ length buf = omega arith in
-        g ∙ sets-eq (jobSheet j) buf 0 fits ∙ ap (λ (k : ℕ). jobSheet j ++ drop k buf) from
-        ∙ ap (λ (y : Judged). exitOf y (jobSheet j) buf) (sym f ∙ e)
+  pub fine-exit : writeExit j buf ≡ jobSheet j ++ drop (length (jobSheet j)) buf
+  unfolding writeExit
+  fine-exit = rw fine
 
-  module _ (c s p : ℕ) (f : x ≡ Amiss c s p) where
-    pub amiss-outcome : (o : Outcome) → o ≡ refusal c s p → o ≡ writeOutcome j (length buf)
-    unfolding writeOutcome
-    amiss-outcome o g = g ∙ ap (λ (y : Judged). outcomeOf y (length (jobSheet j))) (sym f ∙ e)
+  pub stored-exit : (after : List ℕ) → after ≡ sets buf 0 (jobSheet j) → after ≡ writeExit j buf
+  stored-exit after g =
+      let from : 0 + length (jobSheet j) ≡ length (jobSheet j) = zero-add (length (jobSheet j)) in
+      let fits : 0 + length (jobSheet j) ≤ length buf = omega (arith, judge-fine j (length buf) fine .2) in
+      g ∙ sets-eq (jobSheet j) buf 0 fits ∙ ap (λ (k : ℕ). jobSheet j ++ drop k buf) from ∙ sym fine-exit
 
-    pub amiss-exit : buf ≡ writeExit j buf
-    unfolding writeExit
-    amiss-exit = ap (λ (y : Judged). exitOf y (jobSheet j) buf) (sym f ∙ e)
+module _ (j : Job) (buf : List ℕ) (c s p : ℕ) (amiss : judge j (length buf) ≡ Amiss c s p) where
+  pub amiss-outcome : writeOutcome j (length buf) ≡ refusal c s p
+  unfolding writeOutcome
+  amiss-outcome = rw amiss
+
+  pub amiss-exit : writeExit j buf ≡ buf
+  unfolding writeExit
+  amiss-exit = rw amiss

@@ -16,7 +16,7 @@ use lib.Pow.{shr-shr}
 use Rattle.wires.proofs.Digits.{low-digit, half-below}
 use Rattle.wires.proofs.Lowest.{rest, rest-on, rest-off, trailing-on, trailing-off}
 use Rattle.writer.specs.declared.Judged.the-variants.{Fine, Amiss}
-use Rattle.writer.specs.JobWritten.{before, membersFrom, members}
+use Rattle.writer.specs.JobWritten.{before, membersFrom}
 use Rattle.writer.specs.Writing.{allBelow}
 
 -- ---- one digit more

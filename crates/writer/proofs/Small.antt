@@ -16,7 +16,7 @@ use Rattle.sheet.specs.JobSheet.{wireLimit, seenLimit, ruleLimit, termsOf}
 use Rattle.writer.specs.declared.Judged.{Judged}
 use Rattle.writer.specs.declared.Judged.the-variants.{Fine, Amiss}
 use Rattle.writer.specs.JobWritten.{members, jobSheet}
-use Rattle.writer.specs.Writing.{_then_, within, pinsRise, allBelow, judgePins, judgeSeen, judgeRule, judgeEach, judgeRules, judgeRoom, judge, outcomeOf, writeOutcome}
+use Rattle.writer.specs.Writing.{_then_, within, pinsRise, allBelow, judgePins, judgeSet, judgeSeen, judgeRule, judgeEach, judgeRules, judgeRoom, judge, outcomeOf, writeOutcome}
 use Rattle.writer.proofs.Sets.{members-few}
 use Rattle.writer.proofs.Judging.{within-fine, judge-fine}
 use Rattle.writer.proofs.Stores.{rules-short, sheet-long}
@@ -59,13 +59,14 @@ small-below limit section place i (e ∷ es) s f =
     (record { some = omega arith; code = omega arith; section = s; place = f i (omega arith) })
 
 small-set : (most limit section first : ℕ) (place : ℕ → ℕ) (m : ℕ) → section ≤ 4 → first ≤ 256 → ((k : ℕ) → k < 32 → place k ≤ 256)
-    → Small (within most section first (length (members m)) then allBelow limit section place 0 (members m))
+    → Small (judgeSet most limit section first place m)
+unfolding judgeSet
 small-set most limit section first place m s p f =
     small-then (within most section first (length (members m))) (allBelow limit section place 0 (members m)) (small-within most section first (length (members m)) s p)
     (λ fine. small-below limit section place 0 (members m) s (λ k l. f k (omega (arith, members-few 32 0 m))))
 
 small-each : (terms number : ℕ) (rs : List ℕ) → number + length rs ≤ 256 → Small (judgeEach terms number rs)
-unfolding judgeEach judgeRule
+unfolding judgeEach
 small-each terms number [] l = tt
 small-each terms number (r ∷ rs) l =
     small-then (judgeRule terms number r) (judgeEach terms (number + 1) rs)
@@ -73,7 +74,6 @@ small-each terms number (r ∷ rs) l =
     (λ fine. small-each terms (number + 1) rs (omega arith))
 
 small-seen : (wires section m : ℕ) → section ≤ 4 → Small (judgeSeen wires section m)
-unfolding judgeSeen
 small-seen wires section m s = small-set seenLimit wires section 0 (λ i. i) m s (omega arith) (λ k h. omega arith)
 
 small-all-pins : (pins : List ℕ) → Small (judgePins pins)

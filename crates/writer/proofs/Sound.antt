@@ -12,7 +12,7 @@ use Rattle.sheet.specs.Job.{Job}
 use Rattle.sheet.specs.JobSheet.{wireLimit, seenLimit, pinLimit, ruleLimit, termsOf}
 use Rattle.writer.specs.declared.Judged.the-variants.{Fine}
 use Rattle.writer.specs.JobWritten.{members, jobSheet, Describes}
-use Rattle.writer.specs.Writing.{_then_, within, allBelow, judgePins, judgeSeen, judgeRule, judgeEach, judgeRules, judgeRoom, judge}
+use Rattle.writer.specs.Writing.{within, judgePins, judgeSet, judgeSeen, judgeRule, judgeEach, judgeRules, judgeRoom, judge}
 use Rattle.writer.proofs.Judging.{then-fine, within-fine}
 use Rattle.writer.proofs.Masks.{Rising, members-rise, below-fine, fine-below, pins-fine, fine-pins}
 
@@ -46,7 +46,8 @@ unfolding within
 fine-within most section place n l = rw (le-leb n most l)
 
 module _ (most limit section first : ℕ) (place : ℕ → ℕ) (m : ℕ) where
-  set-fine : m < 2 ^ 32 → (within most section first (length (members m)) then allBelow limit section place 0 (members m)) ≡ Fine → IsSet most limit m
+  set-fine : m < 2 ^ 32 → judgeSet most limit section first place m ≡ Fine → IsSet most limit m
+  unfolding judgeSet
   set-fine l h =
       let t = then-fine (within most section first (length (members m))) _ h in
       record {
@@ -55,23 +56,24 @@ module _ (most limit section first : ℕ) (place : ℕ → ℕ) (m : ℕ) where
         rise = below-fine limit section place 0 0 32 (members m) (members-rise m) (t .1);
       }
 
-  fine-set : IsSet most limit m → (within most section first (length (members m)) then allBelow limit section place 0 (members m)) ≡ Fine
+  fine-set : IsSet most limit m → judgeSet most limit section first place m ≡ Fine
+  unfolding judgeSet
   fine-set ok = rw (fine-within most section first (length (members m)) (ok .few)) (fine-below limit section place 0 0 (members m) (ok .rise))
 
 each-fine : (terms number : ℕ) (rs : List ℕ) → ((i : ℕ) → i < length rs → getD rs i 0 < 2 ^ 32) → judgeEach terms number rs ≡ Fine → Rules terms rs
-unfolding judgeEach judgeRule
+unfolding judgeEach
 each-fine terms number [] b h = tt
 each-fine terms number (r ∷ rs) b h =
     let t = then-fine (judgeRule terms number r) _ h in
     (set-fine terms terms 4 number (λ i. number) r (b 0 (omega arith)) (t .0), each-fine terms (number + 1) rs (λ i l. b (suc i) (omega arith)) (t .1))
 
 fine-each : (terms number : ℕ) (rs : List ℕ) → Rules terms rs → judgeEach terms number rs ≡ Fine
-unfolding judgeEach judgeRule
+unfolding judgeEach
 fine-each terms number [] ok = refl
 fine-each terms number (r ∷ rs) ok = rw (fine-set terms terms 4 number (λ i. number) r (ok .0)) (fine-each terms (number + 1) rs (ok .1))
 
 pub fine-sound : (j : Job) (room : ℕ) → Describes j → judge j room ≡ Fine → Sound j
-unfolding judge judgePins judgeSeen judgeRules
+unfolding judge judgePins judgeRules
 fine-sound j room d h =
     let n = length (j .pins) in
     let t₁ = then-fine (judgePins (j .pins)) _ h in
@@ -95,7 +97,6 @@ module _ (j : Job) (ok : Sound j) where
   fine-pins-all = rw (fine-within wireLimit 1 0 (length (j .pins)) (ok .few)) (fine-pins 0 0 (j .pins) (ok .pins))
 
   fine-seen : (section m : ℕ) → IsSet seenLimit (length (j .pins)) m → judgeSeen (length (j .pins)) section m ≡ Fine
-  unfolding judgeSeen
   fine-seen section m set = fine-set seenLimit (length (j .pins)) section 0 (λ i. i) m set
 
   fine-rules : judgeRules (termsOf (length (j .pins))) (j .rules) ≡ Fine

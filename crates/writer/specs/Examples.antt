@@ -6,7 +6,7 @@ use Rattle.steps.specs.Outcome.{success, refusal}
 use Rattle.sheet.specs.Job.{Job}
 use Rattle.sheet.specs.Examples.{j1, j2, j3, j4}
 use Rattle.writer.specs.JobWritten.{membersFrom, rulesBytes, jobSheet, described}
-use Rattle.writer.specs.Writing.{within, pinsRise, allBelow, judgePins, judgeSeen, judgeRule, judgeEach, judgeRules, judgeRoom, judge, writeOutcome}
+use Rattle.writer.specs.Writing.{within, pinsRise, allBelow, judgePins, judgeSet, judgeEach, judgeRules, judgeRoom, judge, writeOutcome}
 
 pub jobs : List Job
 jobs =
@@ -48,9 +48,9 @@ outcomes =
 
 -- with a buffer of 9 bytes, one too few for the last; with 10 it is written
 pub refused-so : map (λ j. writeOutcome j 9) amiss ≡ outcomes
-unfolding amiss outcomes membersFrom rulesBytes jobSheet within pinsRise allBelow judgePins judgeSeen judgeRule judgeEach judgeRules judgeRoom judge writeOutcome
+unfolding amiss outcomes membersFrom rulesBytes jobSheet within pinsRise allBelow judgePins judgeSet judgeEach judgeRules judgeRoom judge writeOutcome
 refused-so = refl
 
 pub just-so : writeOutcome (described [] 0 0 (15 ∷ [])) 10 ≡ success 0 10
-unfolding membersFrom rulesBytes jobSheet within pinsRise allBelow judgePins judgeSeen judgeRule judgeEach judgeRules judgeRoom judge writeOutcome
+unfolding membersFrom rulesBytes jobSheet within pinsRise allBelow judgePins judgeSet judgeEach judgeRules judgeRoom judge writeOutcome
 just-so = refl

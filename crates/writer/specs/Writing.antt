@@ -41,12 +41,16 @@ allBelow limit section place i (e ∷ es) = pick (ltb e limit) (allBelow limit s
 unfoldable pub judgePins : List ℕ → Judged
 judgePins pins = within wireLimit 1 0 (length pins) then pinsRise 0 0 pins
 
-unfoldable pub judgeSeen : (wires section seen : ℕ) → Judged
-judgeSeen wires section seen = within seenLimit section 0 (length (members seen)) then allBelow wires section (λ i. i) 0 (members seen)
+-- a set, of at most `most` entries below the limit: its count has the place `first`, its i-th entry the place `place i`
+unfoldable pub judgeSet : (most limit section first : ℕ) (place : ℕ → ℕ) (m : ℕ) → Judged
+judgeSet most limit section first place m = within most section first (length (members m)) then allBelow limit section place 0 (members m)
+
+abbrev pub judgeSeen : (wires section seen : ℕ) → Judged
+judgeSeen wires section seen = judgeSet seenLimit wires section 0 (λ i. i) seen
 
 -- within a rule the place is the rule's number
-unfoldable pub judgeRule : (terms number rule : ℕ) → Judged
-judgeRule terms number rule = within terms 4 number (length (members rule)) then allBelow terms 4 (λ i. number) 0 (members rule)
+abbrev pub judgeRule : (terms number rule : ℕ) → Judged
+judgeRule terms number rule = judgeSet terms terms 4 number (λ i. number) rule
 
 unfoldable pub judgeEach : (terms number : ℕ) → List ℕ → Judged
 judgeEach terms number [] = Fine

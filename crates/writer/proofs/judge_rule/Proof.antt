@@ -1,7 +1,8 @@
 -- `writer::judge_rule` meets its contract: a term that is not below the limit stands above all that are. Assumes nothing.
+use mathlib.Core.Path.{refl}
 use native.Mathlib.Omega.{arith}
 use borrow.Author.Needs.{needs}
-use Rattle.writer.proofs.Judging.{rule-stop, rule-fine, rule-high}
+use Rattle.writer.proofs.Judging.{set-stop, set-fine, set-high}
 use Rattle.writer.proofs.judge_rule.Statement.{statement}
 use Rattle.writer.proofs.judge_rule.Tie as tie
 
@@ -18,7 +19,7 @@ enum-told-2 : tie.Need-enum-told-2
 enum-told-2 c = search needs
 
 returns : tie.Need-returns
-returns c = rule-stop _ _ _ _ _ _ _ _ (c .before .before .before .size .ensures) (c .before .before .within .ensures) (c .enum-told2 .given .1)
+returns c = set-stop _ _ _ _ _ _ _ _ (c .before .before .before .size .ensures) (c .before .before .within .ensures) _ _ _ (c .enum-told2 .given .1)
 
 shr-if1 : tie.Need-shr-if1
 shr-if1 c = search needs
@@ -29,7 +30,7 @@ returns-2 c =
     let size = c .before .before .before .before .size .ensures in
     let within = c .before .before .before .within .ensures in
     let fine = c .before .enum-told .given .1 in
-    rule-high _ _ _ _ _ size within fine (start .fits .rule .fits) (omega arith)
+    set-high _ _ _ _ (λ i. start .args .number) _ _ _ size within fine (start .fits .rule .fits) _ refl (omega arith)
 
 returns-3 : tie.Need-returns-3
 returns-3 c =
@@ -37,7 +38,7 @@ returns-3 c =
     let size = c .before .before .before .before .size .ensures in
     let within = c .before .before .before .within .ensures in
     let fine = c .before .enum-told .given .1 in
-    rule-fine _ _ _ _ _ size within fine (start .fits .rule .fits) (omega arith)
+    set-fine _ _ _ _ (λ i. start .args .number) _ _ _ size within fine (start .fits .rule .fits) (omega arith)
 
 pub judge-rule-spec : {M : Type 1} → statement M
 judge-rule-spec =

@@ -1,7 +1,8 @@
 -- `writer::judge_seen` meets its contract: the wires not below the limit come last. Assumes nothing.
 use native.Mathlib.Omega.{arith}
 use borrow.Author.Needs.{needs}
-use Rattle.writer.proofs.Judging.{fewer, seen-stop, seen-fine, seen-high}
+use Rattle.sheet.specs.JobSheet.{seenLimit}
+use Rattle.writer.proofs.Judging.{fewer, set-stop, set-fine, set-high}
 use Rattle.writer.proofs.judge_seen.Statement.{statement}
 use Rattle.writer.proofs.judge_seen.Tie as tie
 
@@ -21,7 +22,7 @@ enum-told-2 : tie.Need-enum-told-2
 enum-told-2 c = search needs
 
 returns : tie.Need-returns
-returns c = seen-stop _ _ _ _ _ _ _ _ (c .before .before .before .size .ensures) (c .before .before .within .ensures) (c .enum-told2 .given .1)
+returns c = set-stop _ _ _ _ _ _ _ _ (c .before .before .before .size .ensures) (c .before .before .within .ensures) _ _ _ (c .enum-told2 .given .1)
 
 shr-high : tie.Need-shr-high
 shr-high c = search needs
@@ -42,7 +43,7 @@ returns-2 c =
     let size = c .before .before .before .before .before .size .ensures in
     let within = c .before .before .before .before .within .ensures in
     let fine = c .before .before .enum-told .given .1 in
-    seen-high _ _ _ _ _ size within fine (start .fits .seen .fits) _ (c .size2 .ensures) (omega arith)
+    set-high seenLimit _ _ _ (λ i. i) _ _ _ size within fine (start .fits .seen .fits) _ (c .size2 .ensures) (omega arith)
 
 returns-3 : tie.Need-returns-3
 returns-3 c =
@@ -50,7 +51,7 @@ returns-3 c =
     let size = c .before .before .before .before .size .ensures in
     let within = c .before .before .before .within .ensures in
     let fine = c .before .enum-told .given .1 in
-    seen-fine _ _ _ _ _ size within fine (start .fits .seen .fits) (omega arith)
+    set-fine seenLimit _ _ _ (λ i. i) _ _ _ size within fine (start .fits .seen .fits) (omega arith)
 
 pub judge-seen-spec : {M : Type 1} → statement M
 judge-seen-spec =

@@ -1,8 +1,9 @@
 -- `writer::write_job` meets its contract: the sheet where nothing is amiss, the refusal where something is. Assumes nothing.
-use mathlib.Core.Path.{sym, _∙_}
+use mathlib.Core.Path.{sym, ap, _∙_}
 use borrow.Author.Needs.{needs}
+use Rattle.steps.specs.Outcome.{success}
 use Rattle.writer.specs.JobWritten.{described}
-use Rattle.writer.proofs.Judging.{judge-fine, fine-outcome, fine-exit, amiss-outcome, amiss-exit}
+use Rattle.writer.proofs.Judging.{judge-fine, fine-outcome, stored-exit, amiss-outcome, amiss-exit}
 use Rattle.writer.proofs.write_job.Statement.{statement}
 use Rattle.writer.proofs.write_job.Tie as tie
 
@@ -35,8 +36,10 @@ returns c =
     let job = described (start .pins .now) (start .sees-a) (start .sees-b) (start .rules .now) in
     let judged = c .before .before .before .before .before .before .before .judge .ensures in
     let fine = c .before .before .before .before .before .enum-told .given .1 in
-    let wrote = c .before .before .before .write-sheet .ensures in
-    (fine-outcome job (start .sheet .now) _ judged fine _ _ (wrote .0) (c .succeeded .ensures), fine-exit job (start .sheet .now) _ judged fine _ (wrote .1))
+    let wrote = c .before .before .before .write-sheet .ensures in (
+      c .succeeded .ensures ∙ ap (success 0) (wrote .0) ∙ sym (fine-outcome job (start .sheet .now) (sym judged ∙ fine)),
+      stored-exit job (start .sheet .now) (sym judged ∙ fine) _ (wrote .1),
+    )
 
 returns-2 : tie.Need-returns-2
 returns-2 c =
@@ -44,7 +47,7 @@ returns-2 c =
     let job = described (start .pins .now) (start .sees-a) (start .sees-b) (start .rules .now) in
     let judged = c .before .before .before .before .judge .ensures in
     let amiss = c .before .before .judged .given .1 in
-    (amiss-outcome job (start .sheet .now) _ judged _ _ _ amiss _ (c .refused .ensures), amiss-exit job (start .sheet .now) _ judged _ _ _ amiss)
+    (c .refused .ensures ∙ sym (amiss-outcome job (start .sheet .now) _ _ _ (sym judged ∙ amiss)), sym (amiss-exit job (start .sheet .now) _ _ _ (sym judged ∙ amiss)))
 
 pub write-job-spec : {M : Type 1} → statement M
 write-job-spec =
