@@ -2,6 +2,7 @@
 // Everything that matters is in `text`; here bytes come in and go out.
 use libc::STDIN_FILENO;
 use libc::STDOUT_FILENO;
+use sheet::Form;
 use text::LONGEST_TEXT;
 
 // One byte beyond the longest job sheet: 7,458 bytes decide the outcome of any longer input.
@@ -11,7 +12,7 @@ fn main() {
     let mut job = [0u8; JOB];
     let length = io::read_full(STDIN_FILENO, &mut job);
     let mut out = [0u8; LONGEST_TEXT];
-    let printed = text::text(&job[..length], &mut out);
+    let printed = text::text(Form::One, &job[..length], &mut out);
     let n = printed.written;
     io::write_all(STDOUT_FILENO, &out[..n]);
 }

@@ -25,6 +25,7 @@ use Rattle.steps.specs.declared.Outcome.{Outcome}
 use Rattle.steps.specs.declared.Refusal.{Refusal}
 use Rattle.steps.specs.Step.{pick}
 use Rattle.steps.specs.Outcome.{success, refusal, refusedJob, refusedAnswer, answerCodeOf, placeOf}
+use Rattle.sheet.specs.declared.Form.{Form}
 use Rattle.sheet.specs.Job.{Job, Verdict, accepted, rejected}
 use Rattle.sheet.specs.JobSheet.{readJob}
 use Rattle.answer.specs.Answer.{Entry, Answer, tables, walk, AnswerVerdict, answered}
@@ -44,8 +45,8 @@ use Rattle.board.proofs.Numbered.{stands-iff, among-at, at-among}
 use Rattle.board.proofs.Lowest.{lowest-at, lowest-least, lowest-most}
 use Rattle.board.proofs.Walks.{soundness}
 
-pub shows : (n seesA seesB : ℕ) (rules : List ℕ) → Shows (boardOf n seesA seesB rules)
-shows n seesA seesB rules = record { inA = λ a l. row-below n seesA a; inB = λ a l. row-below n seesB a }
+pub shows : (n seesA seesB : ℕ) (rules excuses : List ℕ) → Shows (boardOf n seesA seesB rules excuses)
+shows n seesA seesB rules excuses = record { inA = λ a l. row-below n seesA a; inB = λ a l. row-below n seesB a }
 
 -- outcomes of different codes differ
 codes-differ : (o p : Outcome) → (o .code ≡ p .code → ⊥) → o ≡ p → ⊥
@@ -172,9 +173,9 @@ walk-not-20 B es e = go (ltb (lowest (λ i. not (stepAt B es i)) (length es)) (l
 -- ---- sheets
 
 -- the answer is the tables sheet of a pair that fits the job's board
-pub record FitsSheet (job answer : List ℕ) : Type 0 where
+pub record FitsSheet (f : Form) (job answer : List ℕ) : Type 0 where
   pub j : Job
-  pub read : readJob job ≡ accepted j
+  pub read : readJob f job ≡ accepted j
   pub xs : List ℕ
   pub ys : List ℕ
   pub sheet : answer ≡ tablesSheet xs ys
@@ -182,9 +183,9 @@ pub record FitsSheet (job answer : List ℕ) : Type 0 where
   pub fits : Pair (jobBoard j) (xs ++ ys)
 
 -- the answer is the sheet of a walk that stands on the job's board
-pub record StandsSheet (job answer : List ℕ) : Type 0 where
+pub record StandsSheet (f : Form) (job answer : List ℕ) : Type 0 where
   pub j : Job
-  pub read : readJob job ≡ accepted j
+  pub read : readJob f job ≡ accepted j
   pub es : List Entry
   pub sheet : answer ≡ walkSheet es
   pub walks : IsWalk (2 * rows (jobBoard j)) (jobBoard j .combinations) es
@@ -206,11 +207,11 @@ joined-tables B xs ys p = record {
         let q : getD (xs ++ ys) r 0 ≡ getD ys (r - B .rowsA) 0 = ap (λ (k : ℕ). getD (xs ++ ys) k 0) e ∙ getD-append-add xs ys (r - B .rowsA) 0 in
         rw q (p .bitsB (r - B .rowsA) (omega arith))
 
-module _ (job answer : List ℕ) (bytes : Bytes answer) where
+module _ (f : Form) (job answer : List ℕ) (bytes : Bytes answer) where
   abbrev verdictFor : Job → AnswerVerdict
   verdictFor j = readAnswer (jobBoard j .rowsA) (jobBoard j .rowsB) (jobBoard j .combinations) answer
 
-  judge-20 : (j : Job) → readJob job ≡ accepted j → (v : AnswerVerdict) → verdictFor j ≡ v → judge (jobBoard j) v ≡ success 20 0 → FitsSheet job answer
+  judge-20 : (j : Job) → readJob f job ≡ accepted j → (v : AnswerVerdict) → verdictFor j ≡ v → judge (jobBoard j) v ≡ success 20 0 → FitsSheet f job answer
   judge-20 j e (answered (tables xs ys)) p q =
       let t = tables-there _ _ _ answer xs ys p in record {
         j = j;
@@ -224,7 +225,7 @@ module _ (job answer : List ℕ) (bytes : Bytes answer) where
   judge-20 j e (answered (walk es)) p q = absurd (walk-not-20 (jobBoard j) es q)
   judge-20 j e (unanswered w) p q = absurd (sheets-differ (refusedAnswer w) (success 20 0) (λ z. omega arith) q)
 
-  judge-21 : (j : Job) → readJob job ≡ accepted j → (v : AnswerVerdict) → verdictFor j ≡ v → judge (jobBoard j) v ≡ success 21 0 → StandsSheet job answer
+  judge-21 : (j : Job) → readJob f job ≡ accepted j → (v : AnswerVerdict) → verdictFor j ≡ v → judge (jobBoard j) v ≡ success 21 0 → StandsSheet f job answer
   judge-21 j e (answered (tables xs ys)) p q = absurd (tables-not-21 (jobBoard j) (xs ++ ys) q)
   judge-21 j e (answered (walk es)) p q =
       let t = walk-there _ _ _ answer es p in record {
@@ -237,47 +238,47 @@ module _ (job answer : List ℕ) (bytes : Bytes answer) where
       }
   judge-21 j e (unanswered w) p q = absurd (sheets-differ (refusedAnswer w) (success 21 0) (λ z. omega arith) q)
 
-  to-20 : (v : Verdict) → readJob job ≡ v → afterJob v answer ≡ success 20 0 → FitsSheet job answer
+  to-20 : (v : Verdict) → readJob f job ≡ v → afterJob v answer ≡ success 20 0 → FitsSheet f job answer
   unfolding judgeSheet
   to-20 (accepted j) e q = judge-20 j e (verdictFor j) refl q
   to-20 (rejected w) e q = absurd (sheets-differ (refusedJob 1 w) (success 20 0) (λ z. omega arith) q)
 
-  to-21 : (v : Verdict) → readJob job ≡ v → afterJob v answer ≡ success 21 0 → StandsSheet job answer
+  to-21 : (v : Verdict) → readJob f job ≡ v → afterJob v answer ≡ success 21 0 → StandsSheet f job answer
   unfolding judgeSheet
   to-21 (accepted j) e q = judge-21 j e (verdictFor j) refl q
   to-21 (rejected w) e q = absurd (sheets-differ (refusedJob 1 w) (success 21 0) (λ z. omega arith) q)
 
 -- what is written is accepted: these two are what a solver, or any author, needs of the checker
-pub accepts-tables : (job : List ℕ) (j : Job) (xs ys : List ℕ) → readJob job ≡ accepted j → IsPair (jobBoard j .rowsA) (jobBoard j .rowsB) xs ys → Fits (jobBoard j) (xs ++ ys)
-    → checkOutcome job (tablesSheet xs ys) ≡ success 20 0
+pub accepts-tables : (f : Form) (job : List ℕ) (j : Job) (xs ys : List ℕ) → readJob f job ≡ accepted j → IsPair (jobBoard j .rowsA) (jobBoard j .rowsB) xs ys → Fits (jobBoard j) (xs ++ ys)
+    → checkOutcome f job (tablesSheet xs ys) ≡ success 20 0
 unfolding checkOutcome judgeSheet
-accepts-tables job j xs ys e p f =
+accepts-tables f job j xs ys e p fits =
     rw (e, tables-read (jobBoard j .rowsA) (jobBoard j .rowsB) (jobBoard j .combinations) xs ys (pow-pos (ones (j .seesA))) p)
-    (judged-fits (jobBoard j) (xs ++ ys) .1 f)
+    (judged-fits (jobBoard j) (xs ++ ys) .1 fits)
 
-pub accepts-walk : (job : List ℕ) (j : Job) (es : List Entry) → readJob job ≡ accepted j → IsWalk (2 * rows (jobBoard j)) (jobBoard j .combinations) es → Stands (jobBoard j) es
-    → checkOutcome job (walkSheet es) ≡ success 21 0
+pub accepts-walk : (f : Form) (job : List ℕ) (j : Job) (es : List Entry) → readJob f job ≡ accepted j → IsWalk (2 * rows (jobBoard j)) (jobBoard j .combinations) es → Stands (jobBoard j) es
+    → checkOutcome f job (walkSheet es) ≡ success 21 0
 unfolding checkOutcome judgeSheet
-accepts-walk job j es e p s =
+accepts-walk f job j es e p s =
     rw (e, walk-read (jobBoard j .rowsA) (jobBoard j .rowsB) (jobBoard j .combinations) es p) (judged-stands (jobBoard j) es (p .some) .1 s)
 
-pub check-20 : (job answer : List ℕ) → Bytes answer → (checkOutcome job answer ≡ success 20 0) ↔ FitsSheet job answer
+pub check-20 : (f : Form) (job answer : List ℕ) → Bytes answer → (checkOutcome f job answer ≡ success 20 0) ↔ FitsSheet f job answer
 unfolding checkOutcome
-check-20 job answer bytes = (
-  to-20 job answer bytes (readJob job) refl,
-  λ f. ap (checkOutcome job) (f .sheet) ∙ accepts-tables job (f .j) (f .xs) (f .ys) (f .read) (f .pair) (f .fits .fits),
+check-20 f job answer bytes = (
+  to-20 f job answer bytes (readJob f job) refl,
+  λ x. ap (checkOutcome f job) (x .sheet) ∙ accepts-tables f job (x .j) (x .xs) (x .ys) (x .read) (x .pair) (x .fits .fits),
 )
 
-pub check-21 : (job answer : List ℕ) → Bytes answer → (checkOutcome job answer ≡ success 21 0) ↔ StandsSheet job answer
+pub check-21 : (f : Form) (job answer : List ℕ) → Bytes answer → (checkOutcome f job answer ≡ success 21 0) ↔ StandsSheet f job answer
 unfolding checkOutcome
-check-21 job answer bytes = (
-  to-21 job answer bytes (readJob job) refl,
-  λ s. ap (checkOutcome job) (s .sheet) ∙ accepts-walk job (s .j) (s .es) (s .read) (s .walks) (s .stands),
+check-21 f job answer bytes = (
+  to-21 f job answer bytes (readJob f job) refl,
+  λ s. ap (checkOutcome f job) (s .sheet) ∙ accepts-walk f job (s .j) (s .es) (s .read) (s .walks) (s .stands),
 )
 
 -- if a walk stands, no pair fits
-pub no-pair : (job answer : List ℕ) → Bytes answer → (j : Job) → readJob job ≡ accepted j → checkOutcome job answer ≡ success 21 0 → (T : List ℕ) → Pair (jobBoard j) T → ⊥
-no-pair job answer bytes j e q T p =
-    let s = check-21 job answer bytes .0 q in
+pub no-pair : (f : Form) (job answer : List ℕ) → Bytes answer → (j : Job) → readJob f job ≡ accepted j → checkOutcome f job answer ≡ success 21 0 → (T : List ℕ) → Pair (jobBoard j) T → ⊥
+no-pair f job answer bytes j e q T p =
+    let s = check-21 f job answer bytes .0 q in
     let same : s .j ≡ j = cc (s .read) in
-    soundness (jobBoard j) (shows _ _ _ _) (s .es) (subst (λ (k : Job). Stands (jobBoard k) (s .es)) same (s .stands)) T p
+    soundness (jobBoard j) (shows _ _ _ _ _) (s .es) (subst (λ (k : Job). Stands (jobBoard k) (s .es)) same (s .stands)) T p

@@ -11,7 +11,7 @@ use native.Mathlib.Omega.{arith}
 use lib.Dec.{lit<}
 use lib.Pow.{shl-exact}
 use lib.Count.{ones}
-use lib.ListN.{length, getD, take, List·getD-append}
+use lib.ListN.{length, getD, List·getD-append}
 use lib.Seq.{getD-append-add}
 use Rattle.wires.specs.Wires.{shown}
 use Rattle.wires.proofs.Rows.{row-below}
@@ -27,7 +27,7 @@ use Rattle.answer.specs.AnswerFound.{asAnswer}
 use Rattle.answer.proofs.There.{tables-there, walk-there}
 use Rattle.board.specs.Board.{Board, atB}
 use Rattle.board.specs.Tables.{held}
-use Rattle.board.specs.JobBoard.{breaksb, headBoard, Sized}
+use Rattle.board.specs.JobBoard.{headBoard}
 use Rattle.board.specs.Check.{lowest, faultAt, tablesAt, judgeTables, judgeWalk, judgeSheet}
 use Rattle.board.specs.Places.{faultIn, walkIn, TablesIn, WalkIn}
 use Rattle.board.proofs.Lowest.{lowest-same}
@@ -51,7 +51,7 @@ refused-is (answered (walk es)) w e = let z : _≡_ {A = ℕ} 0 1 = cc in let no
 refused-is (rejected w′) w e = cc
 
 -- the board that the sheet is read for has the sizes of the job's
-module _ (h : JobHead) (rules s : List ℕ) where
+module _ (h : JobHead) (masks s : List ℕ) where
   abbrev pub verdict : AnswerVerdict
   verdict = readAnswer (2 ^ ones (h .«sees_a»)) (2 ^ ones (h .«sees_b»)) (2 ^ h .wires) s
 
@@ -64,22 +64,22 @@ module _ (h : JobHead) (rules s : List ℕ) where
           bitsB = λ r l. rw (t .atB r l) (t .pair .bitsB r l);
         }
 
-    same-fault : (a : ℕ) → faultIn h rules s a ≡ faultAt (headBoard h rules) (xs ++ ys) a
+    same-fault : (a : ℕ) → faultIn h masks s a ≡ faultAt (headBoard h masks) (xs ++ ys) a
     same-fault a =
         let t = tables-there _ _ _ s xs ys is in
         let row-a = row-below (h .wires) (h .«sees_a») a in
         let row-b = row-below (h .wires) (h .«sees_b») a in
         let in-a : shown (h .wires) (h .«sees_a») a < length xs = omega (arith, t .pair .longA) in
-        ap₂ (breaksb (h .wires) (take (h .rules) rules) a)
+        ap₂ (headBoard h masks .breaks a)
         (t .atA (shown (h .wires) (h .«sees_a») a) row-a ∙ sym (List·getD-append xs ys 0 (shown (h .wires) (h .«sees_a») a) in-a))
         (t .atB (shown (h .wires) (h .«sees_b») a) row-b ∙ sym (getD-append-add xs ys (shown (h .wires) (h .«sees_b») a) 0)
         ∙ ap (λ (n : ℕ). getD (xs ++ ys) (n + shown (h .wires) (h .«sees_b») a) 0) (t .pair .longA))
 
-    pub tables-judged : tablesAt (headBoard h rules) (lowest (faultIn h rules s) (2 ^ h .wires)) ≡ judgeSheet (headBoard h rules) s
+    pub tables-judged : tablesAt (headBoard h masks) (lowest (faultIn h masks s) (2 ^ h .wires)) ≡ judgeSheet (headBoard h masks) s
     unfolding judgeSheet judgeTables
     tables-judged =
         rw is
-        (ap (tablesAt (headBoard h rules)) (lowest-same (faultIn h rules s) (faultAt (headBoard h rules) (xs ++ ys)) (2 ^ h .wires) (λ a l. same-fault a)))
+        (ap (tablesAt (headBoard h masks)) (lowest-same (faultIn h masks s) (faultAt (headBoard h masks) (xs ++ ys)) (2 ^ h .wires) (λ a l. same-fault a)))
 
   module _ (es : List Entry) (is : verdict ≡ answered (walk es)) where
     placed : Placed s es
@@ -98,11 +98,11 @@ module _ (h : JobHead) (rules s : List ℕ) where
           combinations = λ i l. rw (placed i l .1) (t .walks .combination i l);
         }
 
-    pub walk-judged : walkIn h rules s (length es) ≡ judgeSheet (headBoard h rules) s
+    pub walk-judged : walkIn h masks s (length es) ≡ judgeSheet (headBoard h masks) s
     unfolding judgeSheet
-    walk-judged = rw is (walk-in h rules s es placed (walk-there _ _ _ s es is .walks .some))
+    walk-judged = rw is (walk-in h masks s es placed (walk-there _ _ _ s es is .walks .some))
 
-  pub refused-judged : (w : Refusal) → verdict ≡ rejected w → refusedAnswer w ≡ judgeSheet (headBoard h rules) s
+  pub refused-judged : (w : Refusal) → verdict ≡ rejected w → refusedAnswer w ≡ judgeSheet (headBoard h masks) s
   unfolding judgeSheet
   refused-judged w is = rw is
 

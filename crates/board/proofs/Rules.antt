@@ -3,7 +3,14 @@
 --     trueb-iff       a term is true
 --     holdsb-iff      a rule holds
 --     breaksb-iff     some rule of a list is broken
+--     excusesb-iff    an excuse's terms are all true
+--     excusedb-iff    a combination is excused by a list
+--     faultb-iff      some rule is broken where it counts
+--     front-faultb    the same of a list that has the rules and then the excuses at its front
+--     slice-from      the slice of a list from a place on
+--     excused-more    if each excuse of a list contains all terms of some excuse of another, what the one excuses so does the other
 --     holds-by        a rule holds exactly where it meets the set of the true terms
+--     excused-by      a combination is excused exactly where that set contains an excuse
 --     breaks-turn     rule i of those left holds: some rule is broken exactly where one of the rest is
 --     breaks-found    rule i of those left does not hold: some rule is broken
 --     breaks-end      none is left: no rule is broken
@@ -12,20 +19,20 @@ use mathlib.Core.Path.{_≡_, refl, sym, ap, subst, _∙_}
 use mathlib.Core.Bool.{Bool, true, false, not, _&&_, _||_, false≢true, and-eq-true-iff}
 use mathlib.Core.List.{List, [], _∷_}
 use mathlib.Core.Logic.{_↔_, inl, inr, ⊎-elim, by-cases}
-use Prim.Native.Nat.{ℕ, zero, suc, _+_, _*_, _-_, _/_, _%_, _<_, _≤_}
+use Prim.Native.Nat.{ℕ, zero, suc, _+_, _*_, _-_, _/_, _%_, _^_, _<_, _≤_}
 use native.Mathlib.Decide.{ℕ-discrete}
-use native.Mathlib.Numerals.{add-one}
 use native.Mathlib.Omega.{arith}
 use lib.Dec.{eqb}
-use lib.ListN.{length, getD, take, drop, drop-of-length-le}
-use lib.Seq.{drop-cons, getD-take, length-take-le}
-use borrow.Author.Tests.{eqb-true, eq-eqb, not-true}
+use lib.ListN.{length, getD, take, drop, length-drop}
+use lib.Seq.{take-all, getD-take, length-take-le}
+use borrow.Author.Tests.{eqb-true, eq-eqb, ne-eqb, not-true}
 use Rattle.wires.specs.Wires.{wire}
-use Rattle.wires.specs.Terms.{value, IsTrue, Holds, Breaks, Fault, Truths, Meets}
+use Rattle.wires.specs.Terms.{value, IsTrue, Holds, Breaks, Fault, Truths, Meets, Excuses, Excused, Contains, someWithin}
 use Rattle.wires.proofs.Digits.{low-digit}
 use Rattle.wires.proofs.Terms.{holds}
-use Rattle.board.specs.JobBoard.{trueb, anyBelow, holdsb, breaksb}
-use Rattle.board.proofs.Tests.{or-cases, or-left, or-right, and-both}
+use Rattle.wires.proofs.Sets.{or-cases, or-left, or-right, same-test, from-here, none-left, some-to, some-from, excuse-within}
+use Rattle.board.specs.JobBoard.{trueb, anyBelow, holdsb, breaksb, excusesb, excusedb, faultb}
+use Rattle.board.proofs.Tests.{and-both, all-below}
 
 -- ---- some number below k passes
 
@@ -98,12 +105,87 @@ fault-from n (rule ∷ rules) a x y (suc i) l b =
 pub breaksb-iff : (n : ℕ) (rules : List ℕ) (a x y : ℕ) → (breaksb n rules a x y ≡ true) ↔ Fault n rules (length rules) a x y
 breaksb-iff n rules a x y = (fault-to n rules a x y, λ f. fault-from n rules a x y (f .0) (f .1) (f .2))
 
--- ---- rules one by one, each held against the set of the true terms
+-- ---- an excuse, a list of excuses
 
--- two tests that are true together are the same
-same-test : (p q : Bool) → (p ≡ true → q ≡ true) → (q ≡ true → p ≡ true) → p ≡ q
-same-test true q f g = sym (f refl)
-same-test false q f g = sym (fails q (λ e. false≢true (g e)))
+abbrev kept : (n a excuse t : ℕ) → Bool
+kept n a excuse t = not (eqb (wire excuse t) 1) || trueb n a 0 0 t
+
+-- a term that isn't in the excuse or is true
+kept-to : (n a excuse t : ℕ) → kept n a excuse t ≡ true → wire excuse t ≡ 1 → IsTrue n a 0 0 t
+kept-to n a excuse t e h = trueb-iff n a 0 0 t .0 (rw (eq-eqb (wire excuse t) 1 h) at e)
+
+kept-from : (n a excuse t : ℕ) → (wire excuse t ≡ 1 → IsTrue n a 0 0 t) → kept n a excuse t ≡ true
+kept-from n a excuse t h =
+    by-cases (ℕ-discrete (wire excuse t) 1) (λ e. or-right (not (eqb (wire excuse t) 1)) (trueb n a 0 0 t) (trueb-iff n a 0 0 t .1 (h e)))
+    (λ ne. or-left (not (eqb (wire excuse t) 1)) (trueb n a 0 0 t) (ap not (ne-eqb (wire excuse t) 1 ne)))
+
+pub excusesb-iff : (n a excuse : ℕ) → (excusesb n a excuse ≡ true) ↔ Excuses n a excuse
+unfolding excusesb
+excusesb-iff n a excuse = (
+  λ e t l. kept-to n a excuse t (all-below (kept n a excuse) (2 * n) .0 e t l),
+  λ h. all-below (kept n a excuse) (2 * n) .1 (λ t l. kept-from n a excuse t (h t l)),
+)
+
+excused-to : (n : ℕ) (excuses : List ℕ) (a : ℕ) → excusedb n excuses a ≡ true → Excused n excuses (length excuses) a
+unfolding excusedb
+excused-to n [] a e = absurd (false≢true e)
+excused-to n (excuse ∷ excuses) a e =
+    let ih = excused-to n excuses a in
+    ⊎-elim (λ l. (0, omega arith, excusesb-iff n a excuse .0 l)) (λ r. let x = ih r in (suc (x .0), omega arith, x .2))
+    (or-cases (excusesb n a excuse) (excusedb n excuses a) e)
+
+excused-from : (n : ℕ) (excuses : List ℕ) (a i : ℕ) → i < length excuses → Excuses n a (getD excuses i 0) → excusedb n excuses a ≡ true
+unfolding excusedb
+excused-from n [] a i l x = absurd (omega arith)
+excused-from n (excuse ∷ excuses) a zero l x = or-left (excusesb n a excuse) (excusedb n excuses a) (excusesb-iff n a excuse .1 x)
+excused-from n (excuse ∷ excuses) a (suc i) l x = or-right (excusesb n a excuse) (excusedb n excuses a) (excused-from n excuses a i (omega arith) x)
+
+pub excusedb-iff : (n : ℕ) (excuses : List ℕ) (a : ℕ) → (excusedb n excuses a ≡ true) ↔ Excused n excuses (length excuses) a
+excusedb-iff n excuses a = (excused-to n excuses a, λ x. excused-from n excuses a (x .0) (x .1) (x .2))
+
+pub excused-more : (n : ℕ) (es fs : List ℕ) (a : ℕ)
+    → ((i : ℕ) → i < length es → (k : ℕ) × (k < length fs) × Contains (getD es i 0) (getD fs k 0))
+    → excusedb n es a ≡ true → excusedb n fs a ≡ true
+excused-more n es fs a more e =
+    let x = excused-to n es a e in
+    let k = more (x .0) (x .1) in
+    excused-from n fs a (k .0) (k .1) (λ t l h. x .2 t l (k .2 t h))
+
+-- ---- some rule is broken where it counts
+
+pub faultb-iff : (n : ℕ) (rules excuses : List ℕ) (a x y : ℕ)
+    → (faultb n rules excuses a x y ≡ true) ↔ (Fault n rules (length rules) a x y × (Excused n excuses (length excuses) a → ⊥))
+faultb-iff n rules excuses a x y = (
+  λ e.
+      let both = and-eq-true-iff (not (excusedb n excuses a)) (breaksb n rules a x y) .0 e in
+      (fault-to n rules a x y (both .1), λ h. false≢true (sym (not-true (excusedb n excuses a) (both .0)) ∙ excusedb-iff n excuses a .1 h)),
+  λ f. and-both (ap not (fails (excusedb n excuses a) (λ e. f .1 (excused-to n excuses a e)))) (breaksb-iff n rules a x y .1 (f .0)),
+)
+
+-- only the first `count` of a list are looked at
+front-some : (P : ℕ → Type 0) (s : List ℕ) (count : ℕ) → count ≤ length s
+    → ((i : ℕ) × (i < length (take count s)) × P (getD (take count s) i 0)) ↔ ((i : ℕ) × (i < count) × P (getD s i 0))
+front-some P s count long =
+    let few = length-take-le count s long in (
+      λ x. let h : x .0 < count = omega (arith, x .1) in (x .0, h, rw (getD-take count s (x .0) 0 h) at (x .2)),
+      λ x. (x .0, omega (arith, x .1), rw (getD-take count s (x .0) 0 (x .1)) (x .2)),
+    )
+
+pub front-faultb : (n : ℕ) (masks : List ℕ) (count k a x y : ℕ) → count + k ≤ length masks
+    → (faultb n (take count masks) (take k (drop count masks)) a x y ≡ true) ↔ (Fault n masks count a x y × (Excused n (drop count masks) k a → ⊥))
+front-faultb n masks count k a x y long =
+    let test = faultb-iff n (take count masks) (take k (drop count masks)) a x y in
+    let rules = front-some (Breaks n a x y) masks count (omega arith) in
+    let excuses = front-some (Excuses n a) (drop count masks) k (omega (arith, length-drop count masks)) in (
+      λ e. let f = test .0 e in (rules .0 (f .0), λ h. f .1 (excuses .1 h)),
+      λ f. test .1 (rules .1 (f .0), λ h. f .1 (excuses .0 h)),
+    )
+
+-- what `&s[at..]` is
+pub slice-from : (s : List ℕ) (at : ℕ) → take (length s - at) (drop at s) ≡ drop at s
+slice-from s at = take-all (length s - at) (drop at s) (omega (arith, length-drop at s))
+
+-- ---- rules one by one, each held against the set of the true terms
 
 pub holds-by : (n a x y rule set : ℕ) (r : Bool) → Truths n a x y set → (r ≡ true) ↔ Meets rule set → holdsb n a x y rule ≡ r
 holds-by n a x y rule set r t m =
@@ -113,18 +195,19 @@ holds-by n a x y rule set r t m =
     of-terms : Meets rule set ↔ Holds n a x y rule
     of-terms = holds n a x y rule set t
 
+pub excused-by : (n a x y : ℕ) (excuses : List ℕ) (set : ℕ) → Truths n a x y set → ((i : ℕ) → i < length excuses → getD excuses i 0 < 2 ^ (2 * n))
+    → someWithin excuses set ≡ excusedb n excuses a
+excused-by n a x y excuses set t small =
+    same-test (someWithin excuses set) (excusedb n excuses a)
+    (λ e. let w = some-to excuses set e in excused-from n excuses a (w .0) (w .1) (excuse-within n a x y (getD excuses (w .0) 0) set t (small (w .0) (w .1)) .0 (w .2)))
+    (λ e. let w = excused-to n excuses a e in some-from excuses set (w .0) (w .1) (excuse-within n a x y (getD excuses (w .0) 0) set t (small (w .0) (w .1)) .1 (w .2)))
+
 -- the rules from rule i on, of the first count
 module _ (n a x y : ℕ) (rules : List ℕ) (count i : ℕ) (long : count ≤ length rules) (l : i < count) where
-  from-here : drop i (take count rules) ≡ getD rules i 0 ∷ drop (i + 1) (take count rules)
-  from-here = rw (drop-cons (take count rules) i 0 fewer, getD-take count rules i 0 l, add-one)
-    where
-      fewer : i < length (take count rules)
-      fewer = rw (length-take-le count rules long) l
-
   here : breaksb n (drop i (take count rules)) a x y
       ≡ not (holdsb n a x y (getD rules i 0)) || breaksb n (drop (i + 1) (take count rules)) a x y
   unfolding breaksb
-  here = ap (λ (rs : List ℕ). breaksb n rs a x y) from-here
+  here = ap (λ (rs : List ℕ). breaksb n rs a x y) (from-here rules count i long l)
 
   pub breaks-turn : holdsb n a x y (getD rules i 0) ≡ true → breaksb n (drop i (take count rules)) a x y ≡ breaksb n (drop (i + 1) (take count rules)) a x y
   breaks-turn e = here ∙ rw e
@@ -134,4 +217,4 @@ module _ (n a x y : ℕ) (rules : List ℕ) (count i : ℕ) (long : count ≤ le
 
 pub breaks-end : (n a x y : ℕ) (rules : List ℕ) (count : ℕ) → count ≤ length rules → breaksb n (drop count (take count rules)) a x y ≡ false
 unfolding breaksb
-breaks-end n a x y rules count long = rw (drop-of-length-le (take count rules) {i = count} (omega (arith, length-take-le count rules long)))
+breaks-end n a x y rules count long = rw (none-left rules count long)

@@ -8,23 +8,13 @@ use Prim.Native.Nat.{ℕ, zero, suc, _-_, _<_}
 use native.Mathlib.Omega.{arith}
 use lib.Dec.{eqb, ltb}
 use borrow.Author.Tests.{ltb-true, eqb-true, lt-ltb, eq-eqb, not-true}
+use Rattle.wires.proofs.Sets.{or-cases, or-left, or-right}
 use Rattle.board.specs.Board.{Board, atB, row, value, opposite}
 use Rattle.board.specs.Tables.{held, Fits}
 use Rattle.answer.specs.Answer.{Entry}
 use Rattle.board.specs.Walk.{start, Step, fromA, fromB, Among, Goes, Stands}
 use Rattle.board.specs.Tests.{allBelow, amongb, fitsb, fromAb, fromBb, stepb, goesb, standsb}
 use Rattle.board.proofs.Finite.{below-suc}
-
-pub or-cases : (a b : Bool) → a || b ≡ true → (a ≡ true) ⊎ (b ≡ true)
-or-cases true b e = inl refl
-or-cases false b e = inr e
-
-pub or-left : (a b : Bool) → a ≡ true → a || b ≡ true
-or-left a b e = rw e
-
-pub or-right : (a b : Bool) → b ≡ true → a || b ≡ true
-or-right true b e = refl
-or-right false b e = e
 
 pub and-both : {a b : Bool} → a ≡ true → b ≡ true → a && b ≡ true
 and-both {a} {b} p q = and-eq-true-iff a b .1 (p, q)

@@ -17,6 +17,7 @@ use lib.Bits.{bitXor, differ, xor-step, xor-zero-r}
 use lib.ListN.{length}
 use borrow.Author.Tests.{eqb-true, eq-eqb, ne-eqb}
 use Rattle.wires.proofs.Digits.{low-digit}
+use Rattle.wires.proofs.Sets.{same-test}
 use Rattle.sheet.specs.declared.JobHead.{JobHead}
 use Rattle.answer.specs.Answer.{Entry}
 use Rattle.board.specs.Board.{opposite}
@@ -49,11 +50,6 @@ module _ (s : List ℕ) (first claim i : ℕ) (is-first : first ≡ claimIn s 0)
 
 -- ---- the places and the entries
 
-same-test : (a b : Bool) → (a ≡ true → b ≡ true) → (b ≡ true → a ≡ true) → a ≡ b
-same-test true b f g = sym (f refl)
-same-test false true f g = g refl
-same-test false false f g = refl
-
 abbrev pub Placed : List ℕ → List Entry → Type 0
 Placed s es = (i : ℕ) → i < length es → (claimIn s i ≡ entry es i .says) × (combinationIn s i ≡ entry es i .by)
 
@@ -83,13 +79,13 @@ module _ (s : List ℕ) (es : List Entry) (placed : Placed s es) (some : 0 < len
   after-within i l =
       by-cases (ℕ-discrete (i + 1) (length es)) (λ e. rw (eq-eqb (i + 1) (length es) e) some) (λ ne. rw (ne-eqb (i + 1) (length es) ne) (omega arith))
 
-  step-in : (h : JobHead) (rules : List ℕ) (i : ℕ) → i < length es → stepIn h rules s (length es) i ≡ stepAt (headBoard h rules) es i
-  step-in h rules i l = rw (placed i l .0, placed i l .1, placed (afterOf (length es) i) (after-within i l) .0)
+  step-in : (h : JobHead) (masks : List ℕ) (i : ℕ) → i < length es → stepIn h masks s (length es) i ≡ stepAt (headBoard h masks) es i
+  step-in h masks i l = rw (placed i l .0, placed i l .1, placed (afterOf (length es) i) (after-within i l) .0)
 
-pub walk-in : (h : JobHead) (rules s : List ℕ) (es : List Entry) → Placed s es → 0 < length es → walkIn h rules s (length es) ≡ judgeWalk (headBoard h rules) es
+pub walk-in : (h : JobHead) (masks s : List ℕ) (es : List Entry) → Placed s es → 0 < length es → walkIn h masks s (length es) ≡ judgeWalk (headBoard h masks) es
 unfolding judgeWalk
-walk-in h rules s es placed some =
+walk-in h masks s es placed some =
     rw (
-      lowest-same (λ i. not (stepIn h rules s (length es) i)) (λ i. not (stepAt (headBoard h rules) es i)) (length es) (λ i l. ap not (step-in s es placed some h rules i l)),
+      lowest-same (λ i. not (stepIn h masks s (length es) i)) (λ i. not (stepAt (headBoard h masks) es i)) (length es) (λ i l. ap not (step-in s es placed some h masks i l)),
       any-among s es placed some,
     )

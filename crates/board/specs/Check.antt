@@ -1,4 +1,4 @@
--- The checker's outcome, for every job sheet and every answer sheet (document 01, "Outcome numbers").
+-- The checker's outcome, for either form, every job sheet and every answer sheet (document 01, "Outcome numbers").
 --     lowest          the lowest number that passes a test
 --     judgeTables     10 at the lowest combination where the tables break a rule, else 20
 --     judgeWalk       12 at the lowest entry whose step does not hold, then 13, else 21
@@ -12,6 +12,7 @@ use lib.ListN.{length}
 use Rattle.steps.specs.declared.Outcome.{Outcome}
 use Rattle.steps.specs.Step.{pick}
 use Rattle.steps.specs.Outcome.{success, refusal, refusedJob, refusedAnswer}
+use Rattle.sheet.specs.declared.Form.{Form}
 use Rattle.sheet.specs.Job.{Verdict, accepted, rejected}
 use Rattle.sheet.specs.JobSheet.{readJob}
 use Rattle.answer.specs.Answer.{Entry, Answer, tables, walk, AnswerVerdict, answered}
@@ -74,5 +75,5 @@ abbrev pub afterJob : Verdict → List ℕ → Outcome
 afterJob (accepted j) s = judgeSheet (jobBoard j) s
 afterJob (rejected w) s = refusedJob 1 w
 
-unfoldable pub checkOutcome : (job answer : List ℕ) → Outcome
-checkOutcome job answer = afterJob (readJob job) answer
+unfoldable pub checkOutcome : Form → (job answer : List ℕ) → Outcome
+checkOutcome f job answer = afterJob (readJob f job) answer

@@ -11,7 +11,7 @@ use mathlib.Core.List.{List}
 use Prim.Native.Nat.{ℕ, _+_, _*_, _^_, _<_, _≤_}
 use lib.Count.{ones}
 use lib.Dec.{ltb, eqb}
-use lib.ListN.{length, getD, take}
+use lib.ListN.{length, getD}
 use Rattle.steps.specs.Step.{pick}
 use Rattle.wires.specs.Wires.{shown}
 use Rattle.sheet.specs.declared.JobHead.{JobHead}
@@ -19,7 +19,7 @@ use Rattle.board.specs.Tests.{stepb}
 use Rattle.steps.specs.declared.Outcome.{Outcome}
 use Rattle.steps.specs.Outcome.{success, refusal}
 use Rattle.board.specs.Board.{opposite}
-use Rattle.board.specs.JobBoard.{anyBelow, breaksb, headBoard}
+use Rattle.board.specs.JobBoard.{anyBelow, headBoard}
 use Rattle.board.specs.Check.{lowest}
 
 abbrev pub wordAt : List ℕ → ℕ → ℕ
@@ -31,9 +31,9 @@ claimIn s i = wordAt s (6 + 4 * i)
 abbrev pub combinationIn : List ℕ → ℕ → ℕ
 combinationIn s i = wordAt s (8 + 4 * i)
 
-abbrev pub faultIn : JobHead → (rules s : List ℕ) → ℕ → Bool
-faultIn h rules s a =
-    breaksb (h .wires) (take (h .rules) rules) a
+abbrev pub faultIn : JobHead → (masks s : List ℕ) → ℕ → Bool
+faultIn h masks s a =
+    headBoard h masks .breaks a
     (getD s (2 + shown (h .wires) (h .«sees_a») a) 0)
     (getD s (4 + 2 ^ ones (h .«sees_a») + shown (h .wires) (h .«sees_b») a) 0)
 
@@ -41,16 +41,16 @@ faultIn h rules s a =
 abbrev pub afterOf : (k i : ℕ) → ℕ
 afterOf k i = pick (eqb (i + 1) k) 0 (i + 1)
 
-abbrev pub stepIn : JobHead → (rules s : List ℕ) → (k i : ℕ) → Bool
-stepIn h rules s k i = stepb (headBoard h rules) (claimIn s i) (claimIn s (afterOf k i)) (combinationIn s i)
+abbrev pub stepIn : JobHead → (masks s : List ℕ) → (k i : ℕ) → Bool
+stepIn h masks s k i = stepb (headBoard h masks) (claimIn s i) (claimIn s (afterOf k i)) (combinationIn s i)
 
 abbrev pub opposedIn : List ℕ → ℕ → Bool
 opposedIn s i = eqb (claimIn s i) (opposite (claimIn s 0))
 
-abbrev pub walkIn : JobHead → (rules s : List ℕ) → ℕ → Outcome
-walkIn h rules s k =
-    pick (ltb (lowest (λ i. not (stepIn h rules s k i)) k) k)
-    (refusal 12 2 (lowest (λ i. not (stepIn h rules s k i)) k))
+abbrev pub walkIn : JobHead → (masks s : List ℕ) → ℕ → Outcome
+walkIn h masks s k =
+    pick (ltb (lowest (λ i. not (stepIn h masks s k i)) k) k)
+    (refusal 12 2 (lowest (λ i. not (stepIn h masks s k i)) k))
     (pick (anyBelow (opposedIn s) k) (success 21 0) (refusal 13 2 0))
 
 pub record TablesIn (h : JobHead) (s : List ℕ) : Type 0 where

@@ -3,9 +3,10 @@
 use crate::step_holds;
 use crate::test;
 use answer::AnswerRead;
+use sheet::Form;
 use sheet::JobHead;
 use sheet::JobRead;
-use sheet::RULES;
+use sheet::MASKS;
 use steps::Outcome;
 use steps::Refusal;
 use steps::refused;
@@ -25,27 +26,27 @@ ghost use Rattle.board.specs.Places.{wordAt, claimIn, combinationIn, fau
 ghost use Rattle.board.specs.Check.{lowest, tablesAt, judgeSheet, checkOutcome};
 
 // With A and B set to the table entries of the rows that `a` shows, is some rule broken?
-fn fault_at(h: JobHead, rules: &[u32], answer: &[u8], a: Combination) -> bool
-    requires { ⌜ Sized h (now rules) ⌝ }
+fn fault_at(h: JobHead, masks: &[u32], answer: &[u8], a: Combination) -> bool
+    requires { ⌜ Sized h (now masks) ⌝ }
     requires { ⌜ TablesIn h (now answer) ⌝ }
     requires { ⌜ a .0 < 2 ^ h .wires ⌝ }
-    ensures { λ r. ⌜ r ≡ faultIn h (now (rules .entry)) (now (answer .entry)) (a .0) ⌝ }
+    ensures { λ r. ⌜ r ≡ faultIn h (now (masks .entry)) (now (answer .entry)) (a .0) ⌝ }
 {
     let at_a = 2 + row_shown(h.sees_a, a.0 as u32) as usize;
     let at_b = 4 + row_count(h.sees_a) + row_shown(h.sees_b, a.0 as u32) as usize;
-    test(h, rules, a, answer[at_a] as u32, answer[at_b] as u32)
+    test(h, masks, a, answer[at_a] as u32, answer[at_b] as u32)
 }
 
 // The lowest combination at which the tables break a rule, or the number of combinations where they break none.
-fn lowest_fault(h: JobHead, rules: &[u32], answer: &[u8]) -> u32
-    requires { ⌜ Sized h (now rules) ⌝ }
+fn lowest_fault(h: JobHead, masks: &[u32], answer: &[u8]) -> u32
+    requires { ⌜ Sized h (now masks) ⌝ }
     requires { ⌜ TablesIn h (now answer) ⌝ }
-    ensures { λ r. ⌜ r ≡ lowest (faultIn h (now (rules .entry)) (now (answer .entry))) (2 ^ h .wires) ⌝ }
+    ensures { λ r. ⌜ r ≡ lowest (faultIn h (now (masks .entry)) (now (answer .entry))) (2 ^ h .wires) ⌝ }
 {
     let combinations: u32 = 1 << h.wires;
     let mut a: u32 = 0;
     while a < combinations {
-        if fault_at(h, rules, answer, Combination(a as u16)) {
+        if fault_at(h, masks, answer, Combination(a as u16)) {
             return a;
         }
         a += 1;
@@ -54,12 +55,12 @@ fn lowest_fault(h: JobHead, rules: &[u32], answer: &[u8]) -> u32
 }
 
 // 10 at the lowest combination where the tables break a rule, or 20.
-fn judge_tables(h: JobHead, rules: &[u32], answer: &[u8]) -> Outcome
-    requires { ⌜ Sized h (now rules) ⌝ }
+fn judge_tables(h: JobHead, masks: &[u32], answer: &[u8]) -> Outcome
+    requires { ⌜ Sized h (now masks) ⌝ }
     requires { ⌜ TablesIn h (now answer) ⌝ }
-    ensures { λ r. ⌜ r ≡ tablesAt (headBoard h (now (rules .entry))) (lowest (faultIn h (now (rules .entry)) (now (answer .entry))) (2 ^ h .wires)) ⌝ }
+    ensures { λ r. ⌜ r ≡ tablesAt (headBoard h (now (masks .entry))) (lowest (faultIn h (now (masks .entry)) (now (answer .entry))) (2 ^ h .wires)) ⌝ }
 {
-    let lowest = lowest_fault(h, rules, answer);
+    let lowest = lowest_fault(h, masks, answer);
     if lowest < 1 << h.wires {
         refused(10, 2, lowest as usize)
     } else {
@@ -90,31 +91,31 @@ fn combination_at(answer: &[u8], i: u32) -> Combination
 }
 
 // Does entry `i` of a walk of `count` entries step to the next, the last to the first?
-fn entry_steps(h: JobHead, rules: &[u32], answer: &[u8], count: u32, i: u32) -> bool
-    requires { ⌜ Sized h (now rules) ⌝ }
+fn entry_steps(h: JobHead, masks: &[u32], answer: &[u8], count: u32, i: u32) -> bool
+    requires { ⌜ Sized h (now masks) ⌝ }
     requires { ⌜ WalkIn h (now answer) count ⌝ }
     requires { ⌜ i < count ⌝ }
-    ensures { λ r. ⌜ r ≡ stepIn h (now (rules .entry)) (now (answer .entry)) count i ⌝ }
+    ensures { λ r. ⌜ r ≡ stepIn h (now (masks .entry)) (now (answer .entry)) count i ⌝ }
 {
     let l = claim_at(answer, i);
     let a = combination_at(answer, i);
     if i + 1 == count {
         let first = claim_at(answer, 0);
-        return step_holds(h, rules, l, first, a);
+        return step_holds(h, masks, l, first, a);
     }
     let m = claim_at(answer, i + 1);
-    step_holds(h, rules, l, m, a)
+    step_holds(h, masks, l, m, a)
 }
 
 // The lowest entry whose step does not hold, or the number of entries where all hold.
-fn lowest_bad_step(h: JobHead, rules: &[u32], answer: &[u8], count: u32) -> u32
-    requires { ⌜ Sized h (now rules) ⌝ }
+fn lowest_bad_step(h: JobHead, masks: &[u32], answer: &[u8], count: u32) -> u32
+    requires { ⌜ Sized h (now masks) ⌝ }
     requires { ⌜ WalkIn h (now answer) count ⌝ }
-    ensures { λ r. ⌜ r ≡ lowest (λ i. not (stepIn h (now (rules .entry)) (now (answer .entry)) count i)) count ⌝ }
+    ensures { λ r. ⌜ r ≡ lowest (λ i. not (stepIn h (now (masks .entry)) (now (answer .entry)) count i)) count ⌝ }
 {
     let mut i: u32 = 0;
     while i < count {
-        if !entry_steps(h, rules, answer, count, i) {
+        if !entry_steps(h, masks, answer, count, i) {
             return i;
         }
         i += 1;
@@ -140,12 +141,12 @@ fn meets_opposite(answer: &[u8], count: u32) -> bool
 }
 
 // 12 at the lowest entry whose step does not hold, then 13, or 21.
-fn judge_walk(h: JobHead, rules: &[u32], answer: &[u8], count: u32) -> Outcome
-    requires { ⌜ Sized h (now rules) ⌝ }
+fn judge_walk(h: JobHead, masks: &[u32], answer: &[u8], count: u32) -> Outcome
+    requires { ⌜ Sized h (now masks) ⌝ }
     requires { ⌜ WalkIn h (now answer) count ⌝ }
-    ensures { λ r. ⌜ r ≡ walkIn h (now (rules .entry)) (now (answer .entry)) count ⌝ }
+    ensures { λ r. ⌜ r ≡ walkIn h (now (masks .entry)) (now (answer .entry)) count ⌝ }
 {
-    let lowest = lowest_bad_step(h, rules, answer, count);
+    let lowest = lowest_bad_step(h, masks, answer, count);
     if lowest < count {
         return refused(12, 2, lowest as usize);
     }
@@ -157,28 +158,28 @@ fn judge_walk(h: JobHead, rules: &[u32], answer: &[u8], count: u32) -> Outcome
 }
 
 // The outcome of an answer sheet for an accepted job.
-pub fn check_answer(h: JobHead, rules: &[u32], sheet: &[u8]) -> Outcome
-    requires { ⌜ Sized h (now rules) ⌝ }
-    ensures { λ r. ⌜ r ≡ judgeSheet (headBoard h (now (rules .entry))) (now (sheet .entry)) ⌝ }
+pub fn check_answer(h: JobHead, masks: &[u32], sheet: &[u8]) -> Outcome
+    requires { ⌜ Sized h (now masks) ⌝ }
+    ensures { λ r. ⌜ r ≡ judgeSheet (headBoard h (now (masks .entry))) (now (sheet .entry)) ⌝ }
 {
     let rows_a = row_count(h.sees_a) as u32;
     let rows_b = row_count(h.sees_b) as u32;
     let read = answer::read_answer(sheet, rows_a, rows_b, 1 << h.wires);
     match read {
-        AnswerRead::Tables => judge_tables(h, rules, sheet),
-        AnswerRead::Walk(count) => judge_walk(h, rules, sheet, count),
+        AnswerRead::Tables => judge_tables(h, masks, sheet),
+        AnswerRead::Walk(count) => judge_walk(h, masks, sheet, count),
         AnswerRead::Refused(w) => refused_answer(w),
     }
 }
 
-// The checker: the outcome of an answer sheet for a job sheet, for every two strings of bytes.
-pub fn check(job: &[u8], answer: &[u8]) -> Outcome
-    ensures { λ r. ⌜ r ≡ checkOutcome (now (job .entry)) (now (answer .entry)) ⌝ }
+// The checker: the outcome of an answer sheet for a job sheet, for either form and every two strings of bytes.
+pub fn check(form: Form, job: &[u8], answer: &[u8]) -> Outcome
+    ensures { λ r. ⌜ r ≡ checkOutcome form (now (job .entry)) (now (answer .entry)) ⌝ }
 {
-    let mut rules = [0u32; RULES];
-    let read = sheet::read_job(job, &mut rules);
+    let mut masks = [0u32; MASKS];
+    let read = sheet::read_job(form, job, &mut masks);
     match read {
-        JobRead::Accepted(h) => check_answer(h, &rules, answer),
+        JobRead::Accepted(h) => check_answer(h, &masks, answer),
         JobRead::Refused(w) => refused_job(1, w),
     }
 }

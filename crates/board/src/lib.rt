@@ -9,24 +9,28 @@ use wires::Combination;
 use wires::row_count;
 use wires::row_shown;
 use wires::rule_holds;
+use wires::some_within;
 use wires::truths;
 ghost use mathlib.Core.Path.{_≡_};
 ghost use Prim.Native.Nat.{_^_, _<_};
-ghost use lib.ListN.{take};
-ghost use Rattle.board.specs.JobBoard.{breaksb, headBoard, Sized};
+ghost use Rattle.board.specs.JobBoard.{headBoard, Sized};
 ghost use Rattle.board.specs.Tests.{stepb};
 
-// The test of one combination: with A at `x` and B at `y`, is some rule broken where the wires have the combination `a`?
-pub fn test(h: JobHead, rules: &[u32], a: Combination, x: u32, y: u32) -> bool
-    requires { ⌜ Sized h (now rules) ⌝ }
+// The test of one combination: with A at `x` and B at `y`, is some rule broken where the wires have the combination `a`, and
+// `a` not excused? `masks` has the job's rules and then its excuses; an excuse holds where all its terms are true.
+pub fn test(h: JobHead, masks: &[u32], a: Combination, x: u32, y: u32) -> bool
+    requires { ⌜ Sized h (now masks) ⌝ }
     requires { ⌜ (a .0 < 2 ^ h .wires) × (x < 2) × (y < 2) ⌝ }
-    ensures { λ r. ⌜ r ≡ breaksb (h .wires) (take (h .rules) (now (rules .entry))) (a .0) x y ⌝ }
+    ensures { λ r. ⌜ r ≡ headBoard h (now (masks .entry)) .breaks (a .0) x y ⌝ }
 {
     let set = truths(h.wires, a.0 as u32, x, y);
     let count = h.rules as usize;
+    if some_within(&masks[count..], h.excuses as usize, set) {
+        return false;
+    }
     let mut i: usize = 0;
     while i < count {
-        if !rule_holds(rules[i], set) {
+        if !rule_holds(masks[i], set) {
             return true;
         }
         i += 1;
@@ -36,10 +40,10 @@ pub fn test(h: JobHead, rules: &[u32], a: Combination, x: u32, y: u32) -> bool
 
 // Does the step from `l` to `m` by `a` hold? They belong to different cells, `a` shows both rows, and with `l` true and `m`
 // false some rule is broken at `a`.
-pub fn step_holds(h: JobHead, rules: &[u32], l: Claim, m: Claim, a: Combination) -> bool
-    requires { ⌜ Sized h (now rules) ⌝ }
+pub fn step_holds(h: JobHead, masks: &[u32], l: Claim, m: Claim, a: Combination) -> bool
+    requires { ⌜ Sized h (now masks) ⌝ }
     requires { ⌜ a .0 < 2 ^ h .wires ⌝ }
-    ensures { λ r. ⌜ r ≡ stepb (headBoard h (now (rules .entry))) (l .0) (m .0) (a .0) ⌝ }
+    ensures { λ r. ⌜ r ≡ stepb (headBoard h (now (masks .entry))) (l .0) (m .0) (a .0) ⌝ }
 {
     let of_a = row_shown(h.sees_a, a.0 as u32);
     let of_b = row_count(h.sees_a) as u32 + row_shown(h.sees_b, a.0 as u32);
@@ -47,13 +51,13 @@ pub fn step_holds(h: JobHead, rules: &[u32], l: Claim, m: Claim, a: Combination)
     let to = m.0 as u32;
     if from / 2 == of_a {
         if to / 2 == of_b {
-            return test(h, rules, a, from % 2, 1 - to % 2);
+            return test(h, masks, a, from % 2, 1 - to % 2);
         }
         return false;
     }
     if from / 2 == of_b {
         if to / 2 == of_a {
-            return test(h, rules, a, 1 - to % 2, from % 2);
+            return test(h, masks, a, 1 - to % 2, from % 2);
         }
     }
     false

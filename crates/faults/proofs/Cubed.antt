@@ -38,6 +38,10 @@ pub last-is : (n : ℕ) → (2 ^ n - 1) / 64 ≡ blocks n - 1
 last-is n =
     by-cases (decLt n 6) (λ l. omega (arith, few n l, few-blocks n l)) (λ g. omega (arith, many n g, pow-pos (n - 6)))
 
+-- the word of a combination is in one of the blocks
+pub used : (n last a : ℕ) → last ≡ blocks n - 1 → a < 2 ^ n → a / 16 < 4 * last + 4
+used n last a e h = omega (arith, last-is n)
+
 pub high-below : (n p : ℕ) → p < 2 ^ (n + 2) → p / 256 < blocks n
 high-below n p h =
     by-cases (decLt n 6) (λ l. omega (arith, few n l, few-blocks n l, pow-add 2 n 2)) (λ g. omega (arith, many n g, pow-add 2 n 2))

@@ -9,7 +9,7 @@ ghost use mathlib.Core.Bool.{Bool, true};
 ghost use Prim.Native.Nat.{ℕ, _+_, _-_, _*_, _/_, _^_, _<_, _≤_};
 ghost use lib.ListN.{length, getD};
 ghost use Rattle.wires.specs.Wires.{wire};
-ghost use Rattle.faults.specs.Table.{bit, Faults, Marked, Cleared};
+ghost use Rattle.faults.specs.Table.{bit, Faults, Marked, Cleared, Turned, Waived, Struck, Strikes};
 ghost use Rattle.faults.specs.Cubes.{Evens, Arranged, Part, Fits, Added, Ored, Cube, Filled};
 
 // The digits 0, 2, 4, .. of `x`, close together.
@@ -148,6 +148,51 @@ pub fn fill_faults(n: u32, rules: &[u32], count: usize, table: &mut [u64; 1024])
         fill_rule(n, rules[i], table);
         i += 1;
     }
+}
+
+// Sets the digit of each place whose combination the excuse excuses: those where every plain term's wire is 1 and every
+// negated term's is 0.
+pub fn fill_excuse(n: u32, excuse: u32, table: &mut [u64; 1024])
+    requires { ⌜ (n ≤ 14) × (excuse < 2 ^ (2 * n)) ⌝ }
+    requires { ⌜ length (now table) ≡ 1024 ⌝ }
+    ensures { λ _. ⌜ Waived n excuse (now (table .entry)) (now (table .exit)) ⌝ }
+{
+    let ones = arranged(n, evens(excuse));
+    let zeros = arranged(n, evens(excuse / 2));
+    if zeros & ones == 0 {
+        fill_cube(n, zeros | ones, ones, table);
+    }
+}
+
+// Turns each digit of the words below `end` to the other one.
+pub fn turn(end: usize, table: &mut [u64])
+    requires { ⌜ end ≤ length (now table) ⌝ }
+    ensures { λ _. ⌜ Turned end (now (table .entry)) (now (table .exit)) ⌝ }
+{
+    let mut i: usize = 0;
+    while i < end {
+        table[i] = !table[i];
+        i += 1;
+    }
+}
+
+// Clears the digits of the combinations that the first `count` excuses excuse: the table is turned, filled at those places,
+// and turned back.
+pub fn strike(n: u32, excuses: &[u32], count: usize, table: &mut [u64; 1024])
+    requires { ⌜ Strikes n (now excuses) count (now table) ⌝ }
+    ensures { λ _. ⌜ Struck n (now (excuses .entry)) count (now (table .entry)) (now (table .exit)) ⌝ }
+{
+    if count == 0 {
+        return;
+    }
+    let end = 4 * (last_block(n) as usize) + 4;
+    turn(end, table);
+    let mut i: usize = 0;
+    while i < count {
+        fill_excuse(n, excuses[i], table);
+        i += 1;
+    }
+    turn(end, table);
 }
 
 // Whether some rule is broken where the wires have the combination `a`, cell A has `x` and cell B has `y`.

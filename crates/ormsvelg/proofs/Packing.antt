@@ -19,6 +19,8 @@ use lib.Pow.{pow-mono}
 use Rattle.steps.specs.declared.Refusal.{Refusal}
 use Rattle.steps.specs.declared.Refusal.the-variants.{Ends, TooMany, NotRising, TooHigh, LeftOver, OtherKind, NotABit, OutOfRange}
 use Rattle.steps.specs.declared.Outcome.{Outcome}
+use Rattle.sheet.specs.declared.Form.{Form}
+use Rattle.sheet.specs.declared.Form.the-variants.{One, Two}
 use Rattle.sheet.specs.Job.{Job, Verdict, accepted, rejected}
 use Rattle.steps.specs.Step.{pick}
 use Rattle.steps.specs.Outcome.{codeOf, answerCodeOf, placeOf, success, refusal, refusedJob}
@@ -87,21 +89,26 @@ code-small (OtherKind p) = omega arith
 code-small (NotABit p) = omega arith
 code-small (OutOfRange p) = omega arith
 
-verdict-packs : (s : List ℕ) (v : Verdict) → readJob s ≡ v → Packs (outcomeOf v)
-verdict-packs s (accepted j) e = record { code = omega arith; sheet = omega arith; place = omega arith; written = omega arith }
-verdict-packs s (rejected w) e = record {
+-- where a job is refused, in either form
+place-packs : (f : Form) (s : List ℕ) (w : Refusal) → readJob f s ≡ rejected w → placeOf w < 2 ^ 24
+place-packs One s w e = omega (arith, place-small One s w e)
+place-packs Two s w e = omega (arith, place-small Two s w e)
+
+verdict-packs : (f : Form) (s : List ℕ) (v : Verdict) → readJob f s ≡ v → Packs (outcomeOf v)
+verdict-packs f s (accepted j) e = record { code = omega arith; sheet = omega arith; place = omega arith; written = omega arith }
+verdict-packs f s (rejected w) e = record {
   code = code-small w;
   sheet = omega arith;
-  place = omega (arith, place-small s w e);
+  place = place-packs f s w e;
   written = omega arith;
 }
 
-pub read-packs : (s : List ℕ) → Packs (readOutcome s)
+pub read-packs : (f : Form) (s : List ℕ) → Packs (readOutcome f s)
 unfolding readOutcome
-read-packs s = verdict-packs s (readJob s) refl
+read-packs f s = verdict-packs f s (readJob f s) refl
 
-pub read-found : (s : List ℕ) → unpack (pack (readOutcome s)) ≡ readOutcome s
-read-found s = unpack-pack (readOutcome s) (read-packs s)
+pub read-found : (f : Form) (s : List ℕ) → unpack (pack (readOutcome f s)) ≡ readOutcome f s
+read-found f s = unpack-pack (readOutcome f s) (read-packs f s)
 
 -- ---- the checker
 
@@ -146,22 +153,22 @@ module _ (B : Board) (few : B .combinations ≤ 2 ^ 12) (few-a : B .rowsA ≤ 25
   judge-packs (unanswered w) e =
       refusal-packs (answerCodeOf w) 2 (placeOf w) (answer-code-small w) (omega arith) (omega (arith, answer-place-small _ _ _ s w few-a few-b e))
 
-after-packs : (job answer : List ℕ) (v : Verdict) → readJob job ≡ v → Packs (afterJob v answer)
+after-packs : (f : Form) (job answer : List ℕ) (v : Verdict) → readJob f job ≡ v → Packs (afterJob v answer)
 unfolding judgeSheet
-after-packs job answer (accepted j) e =
-    let b = job-bounds job j e in
-    let m = seen-bounds job j e in
+after-packs f job answer (accepted j) e =
+    let b = job-bounds f job j e in
+    let m = seen-bounds f job j e in
     judge-packs (jobBoard j) (pow-mono (b .0)) (pow-mono (m .0)) (pow-mono (m .1)) answer
     (readAnswer (jobBoard j .rowsA) (jobBoard j .rowsB) (jobBoard j .combinations) answer) refl
-after-packs job answer (rejected w) e =
-    refusal-packs (codeOf w) 1 (placeOf w) (code-small w) (omega arith) (omega (arith, place-small job w e))
+after-packs f job answer (rejected w) e =
+    refusal-packs (codeOf w) 1 (placeOf w) (code-small w) (omega arith) (place-packs f job w e)
 
-pub check-packs : (job answer : List ℕ) → Packs (checkOutcome job answer)
+pub check-packs : (f : Form) (job answer : List ℕ) → Packs (checkOutcome f job answer)
 unfolding checkOutcome
-check-packs job answer = after-packs job answer (readJob job) refl
+check-packs f job answer = after-packs f job answer (readJob f job) refl
 
-pub check-found : (job answer : List ℕ) → unpack (pack (checkOutcome job answer)) ≡ checkOutcome job answer
-check-found job answer = unpack-pack (checkOutcome job answer) (check-packs job answer)
+pub check-found : (f : Form) (job answer : List ℕ) → unpack (pack (checkOutcome f job answer)) ≡ checkOutcome f job answer
+check-found f job answer = unpack-pack (checkOutcome f job answer) (check-packs f job answer)
 
 -- ---- the solver
 
@@ -171,17 +178,17 @@ on-packs B entry o exit la lb (tabled xs ys p f e w) =
 on-packs B entry o exit la lb (walked es p st l e w) =
     rw e (success-packs 21 (length (walkSheet es)) (omega arith) (omega (arith, walk-length es, p .most)))
 
-pub solve-packs : {job entry : List ℕ} {o : Outcome} {exit : List ℕ} → Solved job entry o exit → Packs o
-solve-packs {job} {entry} {o} {exit} (refused w e p q) =
-    rw p (refusal-packs (codeOf w) 1 (placeOf w) (code-small w) (omega arith) (omega (arith, place-small job w e)))
-solve-packs {job} {entry} {o} {exit} (noRoom j e l p q) = rw p (refusal-packs 6 0 0 (omega arith) (omega arith) (omega arith))
-solve-packs {job} {entry} {o} {exit} (solved j e l s) =
-    let m = seen-bounds job j e in
+pub solve-packs : {form : Form} {job entry : List ℕ} {o : Outcome} {exit : List ℕ} → Solved form job entry o exit → Packs o
+solve-packs {form} {job} {entry} {o} {exit} (refused w e p q) =
+    rw p (refusal-packs (codeOf w) 1 (placeOf w) (code-small w) (omega arith) (place-packs form job w e))
+solve-packs {form} {job} {entry} {o} {exit} (noRoom j e l p q) = rw p (refusal-packs 6 0 0 (omega arith) (omega arith) (omega arith))
+solve-packs {form} {job} {entry} {o} {exit} (solved j e l s) =
+    let m = seen-bounds form job j e in
     on-packs (jobBoard j) entry o exit (pow-mono (m .0)) (pow-mono (m .1)) s
 
-pub solve-found : (job entry : List ℕ) (o : Outcome) (exit : List ℕ) (r : ℕ) → r ≡ pack o → Solved job entry o exit → Solved job entry (unpack r) exit
-solve-found job entry o exit r e s =
-    subst (λ (x : Outcome). Solved job entry x exit) (sym (ap unpack e ∙ unpack-pack o (solve-packs s))) s
+pub solve-found : (form : Form) (job entry : List ℕ) (o : Outcome) (exit : List ℕ) (r : ℕ) → r ≡ pack o → Solved form job entry o exit → Solved form job entry (unpack r) exit
+solve-found form job entry o exit r e s =
+    subst (λ (x : Outcome). Solved form job entry x exit) (sym (ap unpack e ∙ unpack-pack o (solve-packs s))) s
 
 -- ---- the widener
 
@@ -211,27 +218,27 @@ module _ (P Q : Job) (s entry : List ℕ) (few : jobBoard P .combinations ≤ 2 
       (judge-packs (jobBoard P) few few-a few-b s (answered (walk es)) e)
   judged-packs (unanswered w) e = judge-packs (jobBoard P) few few-a few-b s (unanswered w) e
 
-q-packs : (p q s entry : List ℕ) (P : Job) → readJob p ≡ accepted P → (v : Verdict) → readJob q ≡ v → Packs (withP P v s entry .outcome)
-q-packs p q s entry P isP (accepted Q) e =
-    let b = job-bounds p P isP in
-    let m = seen-bounds p P isP in
-    let k = seen-bounds q Q e in
+q-packs : (f : Form) (p q s entry : List ℕ) (P : Job) → readJob f p ≡ accepted P → (v : Verdict) → readJob f q ≡ v → Packs (withP P v s entry .outcome)
+q-packs f p q s entry P isP (accepted Q) e =
+    let b = job-bounds f p P isP in
+    let m = seen-bounds f p P isP in
+    let k = seen-bounds f q Q e in
     judged-packs P Q s entry (pow-mono (b .0)) (pow-mono (m .0)) (pow-mono (m .1)) (pow-mono (k .0)) (pow-mono (k .1))
     (readAnswer (jobBoard P .rowsA) (jobBoard P .rowsB) (jobBoard P .combinations) s) refl
-q-packs p q s entry P isP (rejected w) e =
-    refusal-packs (codeOf w) 3 (placeOf w) (code-small w) (omega arith) (omega (arith, place-small q w e))
+q-packs f p q s entry P isP (rejected w) e =
+    refusal-packs (codeOf w) 3 (placeOf w) (code-small w) (omega arith) (place-packs f q w e)
 
-p-packs : (p q s entry : List ℕ) (v : Verdict) → readJob p ≡ v → Packs (withNone v q s entry .outcome)
-p-packs p q s entry (accepted P) e = q-packs p q s entry P e (readJob q) refl
-p-packs p q s entry (rejected w) e =
-    refusal-packs (codeOf w) 1 (placeOf w) (code-small w) (omega arith) (omega (arith, place-small p w e))
+p-packs : (f : Form) (p q s entry : List ℕ) (v : Verdict) → readJob f p ≡ v → Packs (withNone f v q s entry .outcome)
+p-packs f p q s entry (accepted P) e = q-packs f p q s entry P e (readJob f q) refl
+p-packs f p q s entry (rejected w) e =
+    refusal-packs (codeOf w) 1 (placeOf w) (code-small w) (omega arith) (place-packs f p w e)
 
-pub widen-packs : (p q s entry : List ℕ) → Packs (widened p q s entry .outcome)
+pub widen-packs : (f : Form) (p q s entry : List ℕ) → Packs (widened f p q s entry .outcome)
 unfolding widened
-widen-packs p q s entry = p-packs p q s entry (readJob p) refl
+widen-packs f p q s entry = p-packs f p q s entry (readJob f p) refl
 
-pub widen-found : (p q s entry : List ℕ) → unpack (pack (widened p q s entry .outcome)) ≡ widened p q s entry .outcome
-widen-found p q s entry = unpack-pack (widened p q s entry .outcome) (widen-packs p q s entry)
+pub widen-found : (f : Form) (p q s entry : List ℕ) → unpack (pack (widened f p q s entry .outcome)) ≡ widened f p q s entry .outcome
+widen-found f p q s entry = unpack-pack (widened f p q s entry .outcome) (widen-packs f p q s entry)
 
 -- ---- the writer
 

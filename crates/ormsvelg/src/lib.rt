@@ -1,9 +1,11 @@
 // The C face: functions on numbers and byte slices for the bench's host program, each outcome as one 64-bit number
 // (document 01, "Bench use"). A slice passes as a pointer and a length; a null pointer with length 0 is an empty slice.
 // What each call does is said below; only the packing is of this crate.
+use sheet::Form;
 use steps::Outcome;
 ghost use mathlib.Core.Path.{_≡_};
 ghost use lib.ListN.{length};
+ghost use Rattle.sheet.specs.declared.Form.the-variants.{One, Two};
 ghost use Rattle.sheet.specs.JobSheet.{readOutcome};
 ghost use Rattle.writer.specs.JobWritten.{described};
 ghost use Rattle.writer.specs.Writing.{writeOutcome, writeExit};
@@ -23,12 +25,20 @@ fn packed(o: Outcome) -> u64
         + 0x10000000000 * (o.written as u64)
 }
 
-// The outcome of reading a job sheet.
+// The outcome of reading a job sheet of form one.
 #[no_mangle]
 pub extern "C" fn ormsvelg_read(job: &[u8]) -> u64
-    ensures { λ r. ⌜ r ≡ pack (readOutcome (now (job .entry))) ⌝ }
+    ensures { λ r. ⌜ r ≡ pack (readOutcome One (now (job .entry))) ⌝ }
 {
-    packed(sheet::read_sheet(job))
+    packed(sheet::read_sheet(Form::One, job))
+}
+
+// The same for job sheets of form two.
+#[no_mangle]
+pub extern "C" fn ormsvelg_read_two(job: &[u8]) -> u64
+    ensures { λ r. ⌜ r ≡ pack (readOutcome Two (now (job .entry))) ⌝ }
+{
+    packed(sheet::read_sheet(Form::Two, job))
 }
 
 // The outcome of writing a job sheet from a description; on success the sheet is at the front of the lent buffer.
@@ -46,27 +56,53 @@ pub extern "C" fn ormsvelg_write(
     packed(writer::write_job(pins, sees_a, sees_b, rules, sheet))
 }
 
-// The outcome of checking an answer sheet against a job sheet.
+// The outcome of checking an answer sheet against a job sheet of form one.
 #[no_mangle]
 pub extern "C" fn ormsvelg_check(job: &[u8], answer: &[u8]) -> u64
-    ensures { λ r. ⌜ r ≡ pack (checkOutcome (now (job .entry)) (now (answer .entry))) ⌝ }
+    ensures { λ r. ⌜ r ≡ pack (checkOutcome One (now (job .entry)) (now (answer .entry))) ⌝ }
 {
-    packed(board::check::check(job, answer))
+    packed(board::check::check(Form::One, job, answer))
 }
 
-// The outcome of solving a job sheet; on success one answer sheet is at the front of the lent buffer.
+// The same for job sheets of form two.
+#[no_mangle]
+pub extern "C" fn ormsvelg_check_two(job: &[u8], answer: &[u8]) -> u64
+    ensures { λ r. ⌜ r ≡ pack (checkOutcome Two (now (job .entry)) (now (answer .entry))) ⌝ }
+{
+    packed(board::check::check(Form::Two, job, answer))
+}
+
+// The outcome of solving a job sheet of form one; on success one answer sheet is at the front of the lent buffer.
 #[no_mangle]
 pub extern "C" fn ormsvelg_solve(job: &[u8], answer: &mut [u8]) -> u64
-    ensures { λ r. ⌜ Solved (now (job .entry)) (now (answer .entry)) (unpack r) (now (answer .exit)) ⌝ }
+    ensures { λ r. ⌜ Solved One (now (job .entry)) (now (answer .entry)) (unpack r) (now (answer .exit)) ⌝ }
 {
-    packed(solver::solve(job, answer))
+    packed(solver::solve(Form::One, job, answer))
 }
 
-// The outcome of widening an answer for the job P to the job Q; on success the tables sheet for Q is at the front of `out`.
+// The same for job sheets of form two.
+#[no_mangle]
+pub extern "C" fn ormsvelg_solve_two(job: &[u8], answer: &mut [u8]) -> u64
+    ensures { λ r. ⌜ Solved Two (now (job .entry)) (now (answer .entry)) (unpack r) (now (answer .exit)) ⌝ }
+{
+    packed(solver::solve(Form::Two, job, answer))
+}
+
+// The outcome of widening an answer for the job P to the job Q, both of form one; on success the tables sheet for Q is at
+// the front of `out`.
 #[no_mangle]
 pub extern "C" fn ormsvelg_widen(p: &[u8], q: &[u8], answer: &[u8], out: &mut [u8]) -> u64
-    ensures { λ r. ⌜ r ≡ pack (widened (now (p .entry)) (now (q .entry)) (now (answer .entry)) (now (out .entry)) .outcome) ⌝ }
-    ensures { λ r. ⌜ now (out .exit) ≡ widened (now (p .entry)) (now (q .entry)) (now (answer .entry)) (now (out .entry)) .exit ⌝ }
+    ensures { λ r. ⌜ r ≡ pack (widened One (now (p .entry)) (now (q .entry)) (now (answer .entry)) (now (out .entry)) .outcome) ⌝ }
+    ensures { λ r. ⌜ now (out .exit) ≡ widened One (now (p .entry)) (now (q .entry)) (now (answer .entry)) (now (out .entry)) .exit ⌝ }
 {
-    packed(widener::widen(p, q, answer, out))
+    packed(widener::widen(Form::One, p, q, answer, out))
+}
+
+// The same for job sheets of form two.
+#[no_mangle]
+pub extern "C" fn ormsvelg_widen_two(p: &[u8], q: &[u8], answer: &[u8], out: &mut [u8]) -> u64
+    ensures { λ r. ⌜ r ≡ pack (widened Two (now (p .entry)) (now (q .entry)) (now (answer .entry)) (now (out .entry)) .outcome) ⌝ }
+    ensures { λ r. ⌜ now (out .exit) ≡ widened Two (now (p .entry)) (now (q .entry)) (now (answer .entry)) (now (out .entry)) .exit ⌝ }
+{
+    packed(widener::widen(Form::Two, p, q, answer, out))
 }

@@ -3,7 +3,7 @@
 --     stepped              a step lands in a local, and was refused, or found
 --     got-two, got-place, got-none     `let Got(..) = x else { .. }` where it was found: the number and the place, the place alone, or neither goes to a local.        tag      the operand of the switch
 --     over-sheet           a call that takes the sheet, or a reader of it: the sheet is Copy, and is kept.        reads, answer        the same where a step is answered
---     opening, moving      a reader is made.      counting, set-taking, ending, pin-checking       a step at a place: a count of either width, a set, the end, the pins.      limiting, stopping      calls without the sheet
+--     opening, moving      a reader is made.      counting, set-taking, ending, pin-checking       a step at a place: a count of either width, a set, the end, the pins.      stopping      a call without the sheet
 -- The head of the context is the sheet's token and what the sheet owns, before and after each call.
 -- Assumes `Given`, and that each callee meets its contract.
 use mathlib.Core.Path.{_≡_, refl, sym, ap, _∙_, subst}
@@ -29,7 +29,7 @@ use types.Run.{Walks, Finds, Opd, Opds, init, stop, fld, from, load, of-opd, lan
 use sound.WpLaws.{FmC}
 use denote.RattleType.{RattleType}
 use denote.Laws.{Is}
-use denote.Plain.{uint-makes, uint-tells}
+use denote.Plain.{uint-makes}
 use denote.Builtin.{u32, usize}
 use denote.Ref.{RefT, now}
 use denote.Steps.{owned, nothing, only}
@@ -41,7 +41,7 @@ use denote.Triple.Clauses.{ensured}
 use Rattle.steps.specs.Step.{Reading}
 use Rattle.steps.specs.Bytes.{end}
 use Rattle.steps.specs.Found.{asRead}
-use Rattle.sheet.specs.JobSheet.{countedMask, termsOf, wireLimit}
+use Rattle.sheet.specs.JobSheet.{countedMask}
 use Rattle.sheet.specs.JobFound.{pinsPass}
 use Rattle.steps.specs.declared.Refusal.{Refusal}
 use Rattle.steps.specs.declared.Read.{Read}
@@ -64,7 +64,6 @@ use Rattle.sheet.proofs.take_count as take-count
 use Rattle.sheet.proofs.take_set as take-set
 use Rattle.sheet.proofs.at_end as at-end
 use Rattle.sheet.proofs.check_pins as check-pins
-use Rattle.sheet.proofs.term_limit as term-limit
 use Rattle.sheet.proofs.stopped as stopped
 
 -- a step's numbers fit their types, so a local can hold it
@@ -149,9 +148,6 @@ module _ {M : Type 1} (𝓤 : URA M) (H : Heap 𝓤) (A : Atoms 𝓤) (mem : Mem
   abbrev pub CheckPins : Contract 𝓤
   CheckPins = tripleOf 𝓤 H A check-pins.signature (check-pins.spec 𝓤 H A mem run)
 
-  abbrev pub TermLimit : Contract 𝓤
-  TermLimit = tripleOf 𝓤 H A term-limit.signature (term-limit.spec 𝓤 H A mem run)
-
   abbrev pub Stopped : Contract 𝓤
   Stopped = tripleOf 𝓤 H A stopped.signature (stopped.spec 𝓤 H A mem run)
 
@@ -177,9 +173,6 @@ module _ {M : Type 1} (𝓤 : URA M) (H : Heap 𝓤) (A : Atoms 𝓤) (W : Given
 
   abbrev pub to-pins : ℕ → ℕ → CheckPins 𝓤 H A mem run .Ghost
   to-pins p n = (((κ, tt), (q, tt), tt, (s, (p, (n, tt))), (sheetVal s ∷ [], (vint w64 p ∷ [], (vint w32 n ∷ [], tt)))), tt)
-
-  abbrev pub to-limit : ℕ → TermLimit 𝓤 H A mem run .Ghost
-  to-limit n = ((tt, tt, tt, (n, tt), (vint w32 n ∷ [], tt)), tt)
 
   abbrev pub to-stopped : Refusal → Stopped 𝓤 H A mem run .Ghost
   to-stopped w = ((tt, tt, tt, (Refused w, tt), (S′.lowered (Refused w) ∷ [], tt)), tt)
@@ -261,14 +254,6 @@ module _ {M : Type 1} (𝓤 : URA M) (H : Heap 𝓤) (A : Atoms 𝓤) (W : Given
         (qed W ((Tok κ q ⊛ Own) ∷ []) ∵ split ! $ nothing ! $ owned ! u32 (Is u32) (uint-makes 𝓤 H A W w32) n _ (refl, fits′) $ fjoin ! $ owned ! usize (Is usize) (uint-makes 𝓤 H A W w64) p _ (refl, fits) $ fjoin ! $
         move ! (2 ∷ 0 ∷ []) $ fjoin ! $ move ! (1 ∷ 0 ∷ []) $ join ! $ frame ! $ done !)
         (ensured 𝓤 H A check-pins.ended (check-pins.clauses 𝓤 H A mem run) (κ, tt) (s, (p, (n, tt))) tt) (λ u. id⊢ 𝓤 _) (λ r. clause 𝓤 H A check-pins.ended (check-pins.clauses 𝓤 H A mem run) (κ, tt) (s, (p, (n, tt))) tt r _ (λ ws. id⊢ 𝓤 _)) os k
-
-    pub limiting : Triple 𝓤 (C f) (TermLimit 𝓤 H A mem run) → (n : ℕ) → Opds (Go {0}) W (raw (TermLimit 𝓤 H A mem run .pre (to-limit n)) ∷ Γ) E xs (TermLimit 𝓤 H A mem run .args (to-limit n))
-        → n < 2 ^ 32 → n ≤ wireLimit → Sq W Γ (lands C Λ E d (vint w32 (termsOf n)) rest Q) → Sq W Γ (runs C Λ E (seq (call f xs d) rest) Q)
-    limiting known n os fits low k =
-        nothing ! $ answers ! fm (TermLimit 𝓤 H A mem run) known (to-limit n) (‵ ftrue) u32 (λ (r : ℕ). r ≡ termsOf n)
-        (qed W (‵ ftrue ∷ []) ∵ says ! low $ nothing ! $ owned ! u32 (Is u32) (uint-makes 𝓤 H A W w32) n _ (refl, fits) $ fjoin ! $ move ! (1 ∷ 0 ∷ []) $ done !)
-        (ensured 𝓤 H A term-limit.ended (term-limit.clauses 𝓤 H A mem run) tt (n, tt) tt) (λ u. id⊢ 𝓤 _) (λ r. clause 𝓤 H A term-limit.ended (term-limit.clauses 𝓤 H A mem run) tt (n, tt) tt r _ (λ ws. id⊢ 𝓤 _))
-        os (λ r u e is. drop ! $ regoal ! (λ (v : Val). lands C Λ E d v rest Q) (ap only (uint-tells w32 r (u ∷ []) is) ∙ ap (vint w32) e) refl $ k)
 
     pub stopping : Triple 𝓤 (C f) (Stopped 𝓤 H A mem run) → (w : Refusal) → Fits (Refused w) → Opds (Go {0}) W (raw (Stopped 𝓤 H A mem run .pre (to-stopped w)) ∷ Γ) E xs (Stopped 𝓤 H A mem run .args (to-stopped w))
         → (IsJob (jobRead.Refused w) → Sq W Γ (lands C Λ E d (J′.lowered (jobRead.Refused w)) rest Q)) → Sq W Γ (runs C Λ E (seq (call f xs d) rest) Q)

@@ -1,25 +1,28 @@
 -- What a sheet that is accepted has, for whoever calls `read_job`: j is the job, s the sheet.
 --     pins-stay       the pins stand in the sheet, from place 1 on
---     rules-front     the lent array begins with the rules
---     job-bounds, seen-bounds, rule-bounds      how many pins, rules and seen wires there are, and what each set is below
+--     rules-front, excuses-next     the lent array begins with the rules, and after them the excuses
+--     job-bounds, seen-bounds, rule-bounds, excuses-most, excuse-bounds      how many pins, rules, excuses and seen wires there are, and what each set is below
+--     none-excused    in form one a job has no excuses
 -- Assumes nothing.
 use mathlib.Core.Path.{_≡_, sym, ap, _∙_}
-use mathlib.Core.List.{List, [], _∷_}
+use mathlib.Core.List.{List, [], _∷_, _++_, append-assoc}
 use Prim.Native.Nat.{ℕ, zero, suc, _+_, _*_, _^_, _≤_, _<_}
 use native.Mathlib.Nat.{zero-add, pow-suc}
 use native.Mathlib.Numerals.{add-one}
 use native.Mathlib.Omega.{arith}
-use lib.ListN.{length, getD, take, drop}
+use lib.ListN.{length, getD, take, drop, length-append}
 use lib.Count.{ones}
 use lib.Pow.{pow-mono}
-use lib.Seq.{sets, sets-eq, drop-cons, take-append-seam}
+use lib.Seq.{sets, sets-eq, drop-cons, take-append-seam, drop-append-seam}
 use Rattle.steps.specs.Step.{Step, got, refused}
+use Rattle.sheet.specs.declared.Form.{Form}
+use Rattle.sheet.specs.declared.Form.the-variants.{One, Two}
 use Rattle.sheet.specs.Job.{Job, Head, accepted}
 use Rattle.steps.specs.Bytes.{entry, entries, count, wordCount, end}
-use Rattle.sheet.specs.JobSheet.{maskOf, mask, countedMask, rules, head, job, readJob, verdictOf, termsOf, wireLimit, seenLimit, ruleLimit, pinLimit}
-use Rattle.sheet.specs.JobFound.{kept, keptRules}
+use Rattle.sheet.specs.JobSheet.{maskOf, mask, countedMask, rules, excuses, head, job, readJob, verdictOf, termsOf, wireTermsOf, wireLimit, seenLimit, ruleLimit, excuseLimit, pinLimit}
+use Rattle.sheet.specs.JobFound.{rulesPass, kept, keptExcuses, keptTerms, keptMasks}
 use Rattle.steps.proofs.Entries.{next-inv, got-inj, entry-bounds, entry-byte}
-use Rattle.sheet.proofs.Heads.{count-bounds, head-facts}
+use Rattle.sheet.proofs.Heads.{count-bounds, word-count-bounds, head-facts}
 use Rattle.sheet.proofs.Jobs.{rules-length}
 use Rattle.sheet.proofs.Ones.{counted-ones}
 
@@ -79,7 +82,7 @@ head-sets s h at e =
     )
 
 -- the rules that were found are those that are stored, and each is below the bit of the terms' number
-kept-is : (n terms : ℕ) (s : List ℕ) (at : ℕ) (rs : List ℕ) (m : ℕ) → rules n terms s at ≡ got rs m → kept n terms s at ≡ rs
+pub kept-is : (n terms : ℕ) (s : List ℕ) (at : ℕ) (rs : List ℕ) (m : ℕ) → rules n terms s at ≡ got rs m → kept n terms s at ≡ rs
 unfolding rules kept
 kept-is zero terms s at rs m h = got-inj [] rs at m h
 kept-is (suc n) terms s at rs m h =
@@ -112,61 +115,119 @@ pub accepted-inv : (t : Step Job) (j : Job) → verdictOf t ≡ accepted j → (
 accepted-inv (got k m) j h = let e : k ≡ j = cc in (m, ap (λ (x : Job). got x m) e)
 accepted-inv (refused w) j h = let z : _≡_ {A = ℕ} 0 1 = cc in let no : ⊥ = omega arith in absurd no
 
+-- the excuses that were found are those that are stored, and so with the rules before them
+excuses-kept : (f : Form) (n : ℕ) (s : List ℕ) (at : ℕ) (es : List ℕ) (m : ℕ) → excuses f n s at ≡ got es m → keptExcuses f n s at ≡ es
+unfolding excuses keptExcuses
+excuses-kept One n s at es m h = got-inj [] es at m h
+excuses-kept Two n s at es m h =
+    let i = next-inv (wordCount excuseLimit s at) _ es m h in
+    rw (i .2) (kept-is (i .0) (wireTermsOf n) s (i .1) es m (i .3))
+
+terms-kept : (f : Form) (n k : ℕ) (s : List ℕ) (at : ℕ) (rs es : List ℕ) (l m : ℕ) → rules k (termsOf n) s at ≡ got rs l → excuses f n s l ≡ got es m
+    → keptTerms f n k s at ≡ rs ++ es
+unfolding keptTerms rulesPass
+terms-kept f n k s at rs es l m h g = rw (kept-is k (termsOf n) s at rs l h, h, excuses-kept f n s l es m g)
+
+-- there are no more than 64 of them, and each is below the bit of the wires' terms' number
+excuses-few : (f : Form) (n : ℕ) (s : List ℕ) (at : ℕ) (es : List ℕ) (m : ℕ) → excuses f n s at ≡ got es m → (length es ≤ excuseLimit) × Below (2 ^ wireTermsOf n) es
+unfolding excuses
+excuses-few One n s at es m h = rw (← got-inj [] es at m h) (omega arith, below-nil (2 ^ wireTermsOf n))
+excuses-few Two n s at es m h =
+    let i = next-inv (wordCount excuseLimit s at) _ es m h in
+    let k = rules-length (i .0) (wireTermsOf n) s (i .1) es m (i .3) in
+    (rw k (word-count-bounds excuseLimit s at (i .0) (i .1) (i .2)), rules-lt (i .0) (wireTermsOf n) s (i .1) es m (i .3))
+
 -- the sections of a sheet that is accepted
-sections : (s : List ℕ) (j : Job) → readJob s ≡ accepted j
-    → (h : Head) × (at m : ℕ) × (head s 0 ≡ got h at) × (rules (h .count) (termsOf (h .wires)) s at ≡ got (j .rules) m) × (j .pins ≡ h .pins) × (j .seesA ≡ h .seesA) × (j .seesB ≡ h .seesB)
+record Sections (f : Form) (s : List ℕ) (j : Job) : Type 0 where
+  top : Head
+  at-rules : ℕ
+  at-excuses : ℕ
+  last : ℕ
+  head-is : head s 0 ≡ got top at-rules
+  rules-are : rules (top .count) (termsOf (top .wires)) s at-rules ≡ got (j .rules) at-excuses
+  excuses-are : excuses f (top .wires) s at-excuses ≡ got (j .excuses) last
+  pins-are : j .pins ≡ top .pins
+  a-is : j .seesA ≡ top .seesA
+  b-is : j .seesB ≡ top .seesB
+
+sections : (f : Form) (s : List ℕ) (j : Job) → readJob f s ≡ accepted j → Sections f s j
 unfolding readJob job
-sections s j ok =
-    let a = accepted-inv (job s 0) j ok in
+sections f s j ok =
+    let a = accepted-inv (job f s 0) j ok in
     let i = next-inv (head s 0) _ j (a .0) (a .1) in
     let r = next-inv (rules (i .0 .count) (termsOf (i .0 .wires)) s (i .1)) _ j (a .0) (i .3) in
-    let e = next-inv (end s (r .1)) _ j (a .0) (r .3) in
-    let same = got-inj _ j _ _ (e .3) in (
-      i .0,
-      i .1,
-      r .1,
-      i .2,
-      r .2 ∙ ap (λ (k : Job). got (k .rules) (r .1)) same,
-      sym (ap (λ (k : Job). k .pins) same),
-      sym (ap (λ (k : Job). k .seesA) same),
-      sym (ap (λ (k : Job). k .seesB) same),
-    )
+    let x = next-inv (excuses f (i .0 .wires) s (r .1)) _ j (a .0) (r .3) in
+    let e = next-inv (end s (x .1)) _ j (a .0) (x .3) in
+    let same = got-inj _ j _ _ (e .3) in
+    record {
+      top = i .0;
+      at-rules = i .1;
+      at-excuses = r .1;
+      last = x .1;
+      head-is = i .2;
+      rules-are = r .2 ∙ ap (λ (k : Job). got (k .rules) (r .1)) same;
+      excuses-are = x .2 ∙ ap (λ (k : Job). got (k .excuses) (x .1)) same;
+      pins-are = sym (ap (λ (k : Job). k .pins) same);
+      a-is = sym (ap (λ (k : Job). k .seesA) same);
+      b-is = sym (ap (λ (k : Job). k .seesB) same);
+    }
 
-module _ (s : List ℕ) (j : Job) (ok : readJob s ≡ accepted j) where
+module _ (f : Form) (s : List ℕ) (j : Job) (ok : readJob f s ≡ accepted j) where
+  abbrev x : Sections f s j
+  x = sections f s j ok
+
+  wires-are : length (j .pins) ≡ x .top .wires
+  wires-are = ap length (x .pins-are) ∙ head-facts s (x .top) (x .at-rules) (x .head-is) .2
+
   pub pins-stay : j .pins ≡ take (length (j .pins)) (drop 1 s)
-  pins-stay =
-      let x = sections s j ok in
-      let n : length (j .pins) ≡ x .0 .wires = ap length (x .5) ∙ head-facts s (x .0) (x .1) (x .3) .2 in
-      x .5 ∙ head-sets s (x .0) (x .1) (x .3) .2 ∙ ap (λ (k : ℕ). take k (drop 1 s)) (sym n)
+  pins-stay = x .pins-are ∙ head-sets s (x .top) (x .at-rules) (x .head-is) .2 ∙ ap (λ (k : ℕ). take k (drop 1 s)) (sym wires-are)
 
-  -- all that is stored is the rules
-  pub rules-kept : keptRules s ≡ j .rules
-  unfolding keptRules
-  rules-kept = let x = sections s j ok in rw (x .3) (kept-is (x .0 .count) (termsOf (x .0 .wires)) s (x .1) (j .rules) (x .2) (x .4))
+  -- all that is stored is the rules and the excuses
+  pub masks-kept : keptMasks f s ≡ j .rules ++ j .excuses
+  unfolding keptMasks
+  masks-kept = rw (x .head-is) (terms-kept f (x .top .wires) (x .top .count) s (x .at-rules) (j .rules) (j .excuses) (x .at-excuses) (x .last) (x .rules-are) (x .excuses-are))
 
-  pub rules-front : (buf : List ℕ) → length (j .rules) ≤ length buf → take (length (j .rules)) (sets buf 0 (keptRules s)) ≡ j .rules
-  rules-front buf l =
-      let fits : 0 + length (j .rules) ≤ length buf = omega arith in
-      rw (rules-kept, sets-eq (j .rules) buf 0 fits) (take-append-seam (j .rules) (drop (0 + length (j .rules)) buf))
+  module _ (buf : List ℕ) (l : length (j .rules) + length (j .excuses) ≤ length buf) where
+    stored : sets buf 0 (keptMasks f s) ≡ j .rules ++ (j .excuses ++ drop (length (j .rules) + length (j .excuses)) buf)
+    stored =
+        let long : length (j .rules ++ j .excuses) ≡ length (j .rules) + length (j .excuses) = length-append (j .rules) (j .excuses) in
+        let fits : 0 + length (j .rules ++ j .excuses) ≤ length buf = omega arith in
+        let place : 0 + length (j .rules ++ j .excuses) ≡ length (j .rules) + length (j .excuses) = omega arith in
+        ap (sets buf 0) masks-kept ∙ sets-eq (j .rules ++ j .excuses) buf 0 fits ∙ ap (λ (k : ℕ). (j .rules ++ j .excuses) ++ drop k buf) place
+        ∙ append-assoc (j .rules) (j .excuses) (drop (length (j .rules) + length (j .excuses)) buf)
+
+    pub rules-front : take (length (j .rules)) (sets buf 0 (keptMasks f s)) ≡ j .rules
+    rules-front = rw stored (take-append-seam (j .rules) (j .excuses ++ drop (length (j .rules) + length (j .excuses)) buf))
+
+    pub excuses-next : take (length (j .excuses)) (drop (length (j .rules)) (sets buf 0 (keptMasks f s))) ≡ j .excuses
+    excuses-next =
+        rw (stored, drop-append-seam (j .rules) (j .excuses ++ drop (length (j .rules) + length (j .excuses)) buf))
+        (take-append-seam (j .excuses) (drop (length (j .rules) + length (j .excuses)) buf))
 
   pub job-bounds : (length (j .pins) ≤ wireLimit) × (length (j .rules) ≤ ruleLimit) × (j .seesA < 2 ^ length (j .pins)) × (j .seesB < 2 ^ length (j .pins))
   job-bounds =
-      let x = sections s j ok in
-      let f = head-facts s (x .0) (x .1) (x .3) in
-      let g = head-sets s (x .0) (x .1) (x .3) in
-      let n : length (j .pins) ≡ x .0 .wires = ap length (x .5) ∙ f .2 in
-      let k : length (j .rules) ≡ x .0 .count = rules-length (x .0 .count) (termsOf (x .0 .wires)) s (x .1) (j .rules) (x .2) (x .4) in
-      (rw n (f .0), rw k (f .1), rw (x .6, n) (g .0), rw (x .7, n) (g .1))
+      let b = head-facts s (x .top) (x .at-rules) (x .head-is) in
+      let g = head-sets s (x .top) (x .at-rules) (x .head-is) in
+      let k : length (j .rules) ≡ x .top .count = rules-length (x .top .count) (termsOf (x .top .wires)) s (x .at-rules) (j .rules) (x .at-excuses) (x .rules-are) in
+      (rw wires-are (b .0), rw k (b .1), rw (x .a-is, wires-are) (g .0), rw (x .b-is, wires-are) (g .1))
 
   pub seen-bounds : (ones (j .seesA) ≤ seenLimit) × (ones (j .seesB) ≤ seenLimit)
   seen-bounds =
-      let x = sections s j ok in
-      let g = head-sets s (x .0) (x .1) (x .3) in
-      (rw (x .6) (g .3), rw (x .7) (g .4))
+      let g = head-sets s (x .top) (x .at-rules) (x .head-is) in
+      (rw (x .a-is) (g .3), rw (x .b-is) (g .4))
 
   pub rule-bounds : (i : ℕ) → i < length (j .rules) → getD (j .rules) i 0 < 2 ^ termsOf (length (j .pins))
   unfolding Below
-  rule-bounds i h =
-      let x = sections s j ok in
-      let n : length (j .pins) ≡ x .0 .wires = ap length (x .5) ∙ head-facts s (x .0) (x .1) (x .3) .2 in
-      rw n (rules-lt (x .0 .count) (termsOf (x .0 .wires)) s (x .1) (j .rules) (x .2) (x .4) i h)
+  rule-bounds i h = rw wires-are (rules-lt (x .top .count) (termsOf (x .top .wires)) s (x .at-rules) (j .rules) (x .at-excuses) (x .rules-are) i h)
+
+  pub excuses-most : length (j .excuses) ≤ excuseLimit
+  excuses-most = excuses-few f (x .top .wires) s (x .at-excuses) (j .excuses) (x .last) (x .excuses-are) .0
+
+  pub excuse-bounds : (i : ℕ) → i < length (j .excuses) → getD (j .excuses) i 0 < 2 ^ wireTermsOf (length (j .pins))
+  unfolding Below
+  excuse-bounds i h = rw wires-are (excuses-few f (x .top .wires) s (x .at-excuses) (j .excuses) (x .last) (x .excuses-are) .1 i h)
+
+-- in form one a job has no excuses
+pub none-excused : (s : List ℕ) (j : Job) → readJob One s ≡ accepted j → j .excuses ≡ []
+unfolding excuses
+none-excused s j ok = let x = sections One s j ok in sym (got-inj [] (j .excuses) (x .at-excuses) (x .last) (x .excuses-are))

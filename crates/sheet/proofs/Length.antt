@@ -19,9 +19,11 @@ use Rattle.steps.specs.Bytes.{count, wordCount, entries, end}
 use Rattle.steps.specs.Outcome.{placeOf}
 use Rattle.steps.proofs.Entries.{next-inv}
 use Rattle.steps.proofs.Near.{Near, near-then, near-more, near-give, near-count, near-word-count, near-entries, near-end, end-there, cut-alike}
+use Rattle.sheet.specs.declared.Form.{Form}
+use Rattle.sheet.specs.declared.Form.the-variants.{One, Two}
 use Rattle.sheet.specs.Job.{Job, Head, Verdict, accepted, rejected}
-use Rattle.sheet.specs.JobSheet.{maskOf, mask, countedMask, rules, head, job, readJob, verdictOf, termsOf, wireLimit, seenLimit, ruleLimit, pinLimit, longest}
-use Rattle.sheet.proofs.Heads.{count-bounds, head-facts}
+use Rattle.sheet.specs.JobSheet.{maskOf, mask, countedMask, rules, excuses, head, job, readJob, verdictOf, termsOf, wireTermsOf, wireLimit, seenLimit, ruleLimit, excuseLimit, pinLimit, longest}
+use Rattle.sheet.proofs.Heads.{count-bounds, word-count-bounds, head-facts}
 use Rattle.sheet.proofs.Laws.{accepted-inv}
 
 near-mask : (n limit at : ℕ) → Near n at (λ s. mask n limit s at)
@@ -45,8 +47,8 @@ near-rules (suc n) terms at =
     (λ s r m h.
     near-then (n * (1 + terms)) 0 m (λ s. rules n terms s m) (λ rs q s. got (r ∷ rs) q) (near-rules n terms m) (λ s rs q g. near-give q (r ∷ rs))))
 
-abbrev jobOf : Head → List ℕ → Job
-jobOf h rs = record { pins = h .pins; seesA = h .seesA; seesB = h .seesB; rules = rs }
+abbrev jobOf : Head → (rs es : List ℕ) → Job
+jobOf h rs es = record { pins = h .pins; seesA = h .seesA; seesB = h .seesB; rules = rs; excuses = es }
 
 -- ---- the whole sheet
 
@@ -96,17 +98,44 @@ near-head-rules h at lw lc =
     (rules-most (h .count) (termsOf (h .wires)) lc (omega arith))
     (near-rules (h .count) (termsOf (h .wires)) at)
 
-pub job-near : Near (longest + 1) 0 (λ s. job s 0)
+-- those that the excuses take
+excusesMost : Form → ℕ
+excusesMost One = 0
+excusesMost Two = 1602
+
+excuses-most : (n terms : ℕ) → n ≤ excuseLimit → terms ≤ 24 → n * (1 + terms) ≤ 1600
+excuses-most n terms ln lt = let more : 1 + terms ≤ 25 = omega arith in mul-le-mul ln more
+
+near-excuses : (f : Form) (n at : ℕ) → n ≤ wireLimit → Near (excusesMost f) at (λ s. excuses f n s at)
+unfolding excuses excusesMost
+near-excuses One n at l = near-give at []
+near-excuses Two n at l =
+    near-then 2 1600 at (λ s. wordCount excuseLimit s at) (λ k m s. rules k (wireTermsOf n) s m) (near-word-count excuseLimit at)
+    (λ s k m h.
+    near-more (k * (1 + wireTermsOf n)) 1600 m (λ s. rules k (wireTermsOf n) s m)
+    (excuses-most k (wireTermsOf n) (word-count-bounds excuseLimit s at k m h) (omega arith))
+    (near-rules k (wireTermsOf n) m))
+
+longest-is : (f : Form) → 33 + (7424 + excusesMost f) ≡ longest f
+unfolding excusesMost
+longest-is One = refl
+longest-is Two = refl
+
+pub job-near : (f : Form) → Near (longest f + 1) 0 (λ s. job f s 0)
 unfolding job
-job-near =
-    near-then 33 7425 0 (λ s. head s 0)
-    (λ h at s. next (rules (h .count) (termsOf (h .wires)) s at) (λ rs q. next (end s q) (λ z l. got (jobOf h rs) l)))
+job-near f =
+    near-more (33 + (7424 + (excusesMost f + 1))) (longest f + 1) 0 (λ s. job f s 0) (omega (arith, longest-is f))
+    (near-then 33 (7424 + (excusesMost f + 1)) 0 (λ s. head s 0)
+    (λ h at s. next (rules (h .count) (termsOf (h .wires)) s at) (λ rs q. next (excuses f (h .wires) s q) (λ es m. next (end s m) (λ z l. got (jobOf h rs es) l))))
     near-head
     (λ s h at e.
-    let f = head-facts s h at e in
-    near-then 7424 1 at (λ s. rules (h .count) (termsOf (h .wires)) s at) (λ rs q s. next (end s q) (λ z l. got (jobOf h rs) l))
-    (near-head-rules h at (f .0) (f .1))
-    (λ s rs q g. near-then 1 0 q (λ s. end s q) (λ z l s. got (jobOf h rs) l) (near-end q) (λ s z l k. near-give l (jobOf h rs))))
+    let b = head-facts s h at e in
+    near-then 7424 (excusesMost f + 1) at (λ s. rules (h .count) (termsOf (h .wires)) s at) (λ rs q s. next (excuses f (h .wires) s q) (λ es m. next (end s m) (λ z l. got (jobOf h rs es) l)))
+    (near-head-rules h at (b .0) (b .1))
+    (λ s rs q g.
+    near-then (excusesMost f) 1 q (λ s. excuses f (h .wires) s q) (λ es m s. next (end s m) (λ z l. got (jobOf h rs es) l))
+    (near-excuses f (h .wires) q (b .0))
+    (λ s es m k. near-then 1 0 m (λ s. end s m) (λ z l s. got (jobOf h rs es) l) (near-end m) (λ s z l k. near-give l (jobOf h rs es))))))
 
 -- ---- what follows for whole sheets
 
@@ -114,25 +143,27 @@ refused-inv : (t : Step Job) (w : Refusal) → verdictOf t ≡ rejected w → t 
 refused-inv (got j m) w h = let z : _≡_ {A = ℕ} 0 1 = cc in let no : ⊥ = omega arith in absurd no
 refused-inv (refused v) w h = cc
 
-pub place-small : (s : List ℕ) (w : Refusal) → readJob s ≡ rejected w → placeOf w ≤ longest + 1
+pub place-small : (f : Form) (s : List ℕ) (w : Refusal) → readJob f s ≡ rejected w → placeOf w ≤ longest f + 1
 unfolding readJob
-place-small s w h = job-near .faulty s w (refused-inv (job s 0) w h)
+place-small f s w h = omega (arith, job-near f .faulty s w (refused-inv (job f s 0) w h))
 
-pub accepted-short : (s : List ℕ) (j : Job) → readJob s ≡ accepted j → length s ≤ longest
+pub accepted-short : (f : Form) (s : List ℕ) (j : Job) → readJob f s ≡ accepted j → length s ≤ longest f
 unfolding readJob job
-accepted-short s j ok =
-    let a = accepted-inv (job s 0) j ok in
+accepted-short f s j ok =
+    let a = accepted-inv (job f s 0) j ok in
     let i = next-inv (head s 0) _ j (a .0) (a .1) in
     let r = next-inv (rules (i .0 .count) (termsOf (i .0 .wires)) s (i .1)) _ j (a .0) (i .3) in
-    let e = next-inv (end s (r .1)) _ j (a .0) (r .3) in
-    let f = head-facts s (i .0) (i .1) (i .2) in
+    let x = next-inv (excuses f (i .0 .wires) s (r .1)) _ j (a .0) (r .3) in
+    let e = next-inv (end s (x .1)) _ j (a .0) (x .3) in
+    let b = head-facts s (i .0) (i .1) (i .2) in
     let to-rules : i .1 ≤ 33 = near-head .found s (i .0) (i .1) (i .2) in
-    let to-end : r .1 ≤ i .1 + 7424 = near-head-rules (i .0) (i .1) (f .0) (f .1) .found s (r .0) (r .1) (r .2) in
-    omega (arith, end-there s (r .1) (e .0) (e .1) (e .2))
+    let to-excuses : r .1 ≤ i .1 + 7424 = near-head-rules (i .0) (i .1) (b .0) (b .1) .found s (r .0) (r .1) (r .2) in
+    let to-end : x .1 ≤ r .1 + excusesMost f = near-excuses f (i .0 .wires) (r .1) (b .0) .found s (x .0) (x .1) (x .2) in
+    omega (arith, longest-is f, end-there s (x .1) (e .0) (e .1) (e .2))
 
-pub first-decide : (s : List ℕ) → readJob (take (longest + 1) s) ≡ readJob s
+pub first-decide : (f : Form) (s : List ℕ) → readJob f (take (longest f + 1) s) ≡ readJob f s
 unfolding readJob
-first-decide s =
-    by-cases (decLe (longest + 1) (length s))
-    (λ l. ap verdictOf (sym (job-near .alike (longest + 1) s (take (longest + 1) s) (cut-alike (longest + 1) s l) (omega arith))))
-    (λ g. ap readJob (take-all (longest + 1) s (omega arith)))
+first-decide f s =
+    by-cases (decLe (longest f + 1) (length s))
+    (λ l. ap verdictOf (sym (job-near f .alike (longest f + 1) s (take (longest f + 1) s) (cut-alike (longest f + 1) s l) (omega arith))))
+    (λ g. ap (readJob f) (take-all (longest f + 1) s (omega arith)))

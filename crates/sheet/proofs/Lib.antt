@@ -3,6 +3,7 @@ pub mod Rules
 pub mod Heads
 pub mod Jobs
 pub mod Laws
+pub mod Excuses
 pub mod Ones
 pub mod Length
 pub mod Longest

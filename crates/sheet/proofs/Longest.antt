@@ -1,4 +1,5 @@
--- One sheet has exactly the longest length and is accepted: 12 wires, 8 seen by each cell, 256 rules of all 28 terms.
+-- In each form one sheet has exactly the longest length and is accepted: 12 wires, 8 seen by each cell, 256 rules of all 28 terms, and in form two 64
+-- excuses of all 24.
 --     longestSheet       the sheet
 --     longest-length     its length
 --     longest-accepted   it is accepted
@@ -12,9 +13,11 @@ use borrow.Author.Tests.{lt-ltb, le-ltb, le-leb}
 use lib.ListN.{length, getD, length-append, List·getD-append}
 use lib.Seq.{getD-append-add}
 use Rattle.steps.specs.Step.{Step, got, next}
+use Rattle.sheet.specs.declared.Form.{Form}
+use Rattle.sheet.specs.declared.Form.the-variants.{One, Two}
 use Rattle.sheet.specs.Job.{Job, Head, accepted}
 use Rattle.steps.specs.Bytes.{byte, word, within, count, wordCount, rising, entry, entries, end}
-use Rattle.sheet.specs.JobSheet.{maskOf, mask, countedMask, rules, head, job, readJob, longest}
+use Rattle.sheet.specs.JobSheet.{maskOf, mask, countedMask, rules, excuses, head, job, readJob, excuseLimit, longest}
 use Rattle.steps.proofs.Near.{Alike, byte-there}
 use Rattle.sheet.proofs.Length.{near-head}
 
@@ -34,8 +37,12 @@ times (suc n) l = l ++ times n l
 front : List ℕ
 front = full 12 ++ full 8 ++ full 8 ++ (0 ∷ 1 ∷ [])
 
-pub longestSheet : List ℕ
-longestSheet = front ++ times 256 (full 28)
+fifth : Form → List ℕ
+fifth One = []
+fifth Two = 64 ∷ 0 ∷ times 64 (full 24)
+
+pub longestSheet : Form → List ℕ
+longestSheet f = front ++ (times 256 (full 28) ++ fifth f)
 
 -- ---- a full set of terms is found where it stands
 
@@ -96,19 +103,20 @@ after-front : (p l t : List ℕ) → Stands (p ++ (l ++ t)) (length p) l
 unfolding Stands
 after-front p l t i h = getD-append-add p (l ++ t) i 0 ∙ List·getD-append l t 0 i h
 
-rules-full : (k n : ℕ) (p : List ℕ) → (rs : List ℕ) × (rules k n (p ++ times k (full n)) (length p) ≡ got rs (length (p ++ times k (full n))))
+rules-full : (k n : ℕ) (p t : List ℕ) → (rs : List ℕ) × (rules k n (p ++ (times k (full n) ++ t)) (length p) ≡ got rs (length (p ++ times k (full n))))
 unfolding rules times
-rules-full zero n p = ([], ap (λ (l : List ℕ). got [] (length l)) (sym (append-nil p)))
-rules-full (suc k) n p =
-    let ih = rules-full k n (p ++ full n) in
+rules-full zero n p t = ([], ap (λ (l : List ℕ). got [] (length l)) (sym (append-nil p)))
+rules-full (suc k) n p t =
+    let ih = rules-full k n (p ++ full n) t in
+    let more : List ℕ = times k (full n) ++ t in
     let place : length (p ++ full n) ≡ length p + suc n = length-append p (full n) ∙ ap (λ (m : ℕ). length p + m) (full-length n) in
-    let room : length (p ++ (full n ++ times k (full n))) ≡ length p + (suc n + length (times k (full n))) =
-    length-append p (full n ++ times k (full n)) ∙ ap (λ (m : ℕ). length p + m) (length-append (full n) (times k (full n)) ∙ ap (λ (m : ℕ). m + length (times k (full n))) (full-length n)) in
-    let first = counted-full n (p ++ (full n ++ times k (full n))) (length p) (omega arith) (after-front p (full n) (times k (full n))) in
-    let rest : rules k n (p ++ (full n ++ times k (full n))) (length p + suc n) ≡ got (ih .0) (length (p ++ (full n ++ times k (full n)))) =
-    ap₂ (λ (s : List ℕ) (at : ℕ). rules k n s at) (sym (append-assoc p (full n) (times k (full n)))) (sym place) ∙ ih .1
+    let room : length (p ++ (full n ++ more)) ≡ length p + (suc n + length more) =
+    length-append p (full n ++ more) ∙ ap (λ (m : ℕ). length p + m) (length-append (full n) more ∙ ap (λ (m : ℕ). m + length more) (full-length n)) in
+    let first = counted-full n (p ++ (full n ++ more)) (length p) (omega arith) (after-front p (full n) more) in
+    let rest : rules k n (p ++ (full n ++ more)) (length p + suc n) ≡ got (ih .0) (length (p ++ (full n ++ times k (full n)))) =
+    ap₂ (λ (s : List ℕ) (at : ℕ). rules k n s at) (sym (append-assoc p (full n) more)) (sym place) ∙ ih .1
     ∙ ap (λ (s : List ℕ). got (ih .0) (length s)) (append-assoc p (full n) (times k (full n))) in
-    (maskOf (upFrom n 0) ∷ ih .0, rw (first, rest))
+    (maskOf (upFrom n 0) ∷ ih .0, rw (append-assoc (full n) (times k (full n)) t, first, rest))
 
 -- ---- the whole sheet
 
@@ -117,16 +125,22 @@ unfolding times
 times-length zero l = omega arith
 times-length (suc k) l = length-append l (times k l) ∙ omega (arith, times-length k l)
 
-pub longest-length : length longestSheet ≡ longest
-unfolding longestSheet front full upFrom
-longest-length = length-append front (times 256 (full 28)) ∙ ap (λ (m : ℕ). length front + m) (times-length 256 (full 28))
+fifth-length : (f : Form) → 7457 + length (fifth f) ≡ longest f
+unfolding fifth
+fifth-length One = refl
+fifth-length Two = omega (arith, times-length 64 (full 24), full-length 24)
 
-front-alike : Alike 33 longestSheet front
+pub longest-length : (f : Form) → length (longestSheet f) ≡ longest f
 unfolding longestSheet front full upFrom
-front-alike = record {
-  long = omega (arith, longest-length);
+longest-length f =
+    omega (arith, length-append front (times 256 (full 28) ++ fifth f), length-append (times 256 (full 28)) (fifth f), times-length 256 (full 28), fifth-length f)
+
+front-alike : (f : Form) → Alike 33 (longestSheet f) front
+unfolding longestSheet front full upFrom
+front-alike f = record {
+  long = omega (arith, longest-length f, fifth-length f);
   as-long = omega arith;
-  same = λ i h. List·getD-append front (times 256 (full 28)) 0 i h;
+  same = λ i h. List·getD-append front (times 256 (full 28) ++ fifth f) 0 i h;
 }
 
 front-head : Head
@@ -140,8 +154,36 @@ at-end : (s : List ℕ) → end s (length s) ≡ got 0 (length s)
 unfolding end
 at-end s = rw (le-ltb (length s) (length s) (omega arith))
 
-pub longest-accepted : (j : Job) × (readJob longestSheet ≡ accepted j)
+-- two bytes that stand after p
+words : (p t : List ℕ) → wordCount excuseLimit (p ++ (64 ∷ 0 ∷ t)) (length p) ≡ got 64 (length p + 2)
+unfolding wordCount word within
+words p t =
+    let s : List ℕ = p ++ (64 ∷ 0 ∷ t) in
+    let long : length s ≡ length p + suc (suc (length t)) = length-append p (64 ∷ 0 ∷ t) in
+    let low : getD s (length p) 0 ≡ 64 = ap (λ (k : ℕ). getD s k 0) (sym (add-zero (length p))) ∙ getD-append-add p (64 ∷ 0 ∷ t) 0 0 in
+    let high : getD s (length p + 1) 0 ≡ 0 = getD-append-add p (64 ∷ 0 ∷ t) 1 0 in
+    let place : length p + 1 + 1 ≡ length p + 2 = omega arith in
+    rw (byte-there s (length p) (omega arith), byte-there s (length p + 1) (omega arith), low, high) (ap (got 64) place)
+
+-- the excuses stand after the rules, and the sheet ends with them
+excuses-full : (f : Form) (p : List ℕ) → (es : List ℕ) × (excuses f 12 (p ++ fifth f) (length p) ≡ got es (length (p ++ fifth f)))
+unfolding excuses fifth
+excuses-full One p = ([], ap (λ (l : List ℕ). got [] (length l)) (sym (append-nil p)))
+excuses-full Two p =
+    let q : List ℕ = p ++ (64 ∷ 0 ∷ []) in
+    let r = rules-full 64 24 q [] in
+    let whole : q ++ (times 64 (full 24) ++ []) ≡ p ++ (64 ∷ 0 ∷ times 64 (full 24)) = ap (λ (l : List ℕ). q ++ l) (append-nil (times 64 (full 24))) ∙ append-assoc p (64 ∷ 0 ∷ []) (times 64 (full 24)) in
+    let end : length (q ++ times 64 (full 24)) ≡ length (p ++ (64 ∷ 0 ∷ times 64 (full 24))) = ap length (append-assoc p (64 ∷ 0 ∷ []) (times 64 (full 24))) in
+    let place : length q ≡ length p + 2 = length-append p (64 ∷ 0 ∷ []) in
+    (r .0, rw (words p (times 64 (full 24))) (ap₂ (λ (s : List ℕ) (at : ℕ). rules 64 24 s at) (sym whole) (sym place) ∙ r .1 ∙ ap (got (r .0)) end))
+
+pub longest-accepted : (f : Form) → (j : Job) × (readJob f (longestSheet f) ≡ accepted j)
 unfolding readJob job longestSheet front-head front full upFrom
-longest-accepted =
-    let r = rules-full 256 28 front in
-    (record { pins = upFrom 12 0; seesA = 255; seesB = 255; rules = r .0 }, rw (near-head .alike 33 longestSheet front front-alike (omega arith) ∙ front-is, r .1, at-end longestSheet))
+longest-accepted f =
+    let r = rules-full 256 28 front (fifth f) in
+    let x = excuses-full f (front ++ times 256 (full 28)) in
+    let whole : (front ++ times 256 (full 28)) ++ fifth f ≡ longestSheet f = append-assoc front (times 256 (full 28)) (fifth f) in
+    let es : excuses f 12 (longestSheet f) (length (front ++ times 256 (full 28))) ≡ got (x .0) (length (longestSheet f)) =
+    ap (λ (s : List ℕ). excuses f 12 s (length (front ++ times 256 (full 28)))) (sym whole) ∙ x .1 ∙ ap (λ (s : List ℕ). got (x .0) (length s)) whole in
+    let top : head (longestSheet f) 0 ≡ got front-head 33 = near-head .alike 33 (longestSheet f) front (front-alike f) (omega arith) ∙ front-is in
+    (record { pins = upFrom 12 0; seesA = 255; seesB = 255; rules = r .0; excuses = x .0 }, rw (top, r .1, es, at-end (longestSheet f)))

@@ -1,9 +1,8 @@
--- A turn of the loop that reads the rules and stores each. Assumes nothing.
-use mathlib.Core.Path.{_≡_, ap}
+-- A turn of the loop that reads rules, or excuses, and stores each, the first of them at `first`. Assumes nothing.
+use mathlib.Core.Path.{_≡_, ap, ap₂}
 use mathlib.Core.List.{List, _∷_}
 use Prim.Native.Nat.{ℕ, suc, _+_, _-_, _≤_, _<_}
 use native.Mathlib.Omega.{arith}
-use native.Mathlib.Numerals.{add-one}
 use lib.ListN.{set}
 use lib.Seq.{sets}
 use Rattle.steps.specs.declared.Refusal.{Refusal}
@@ -20,8 +19,11 @@ pub rules-start : (n terms : ℕ) (s : List ℕ) (at : ℕ) → rulesPass n term
 unfolding rulesPass
 rules-start n terms s at = let e : n ≡ n - 0 = omega arith in ap (λ (j : ℕ). rulesFrom j terms n s at) e
 
-pub kept-start : (n terms : ℕ) (s : List ℕ) (at : ℕ) (buf : List ℕ) → sets buf 0 (kept n terms s at) ≡ sets buf 0 (kept (n - 0) terms s at)
-kept-start n terms s at buf = let e : n ≡ n - 0 = omega arith in ap (λ (j : ℕ). sets buf 0 (kept j terms s at)) e
+pub kept-start : (n terms : ℕ) (s : List ℕ) (at : ℕ) (buf : List ℕ) (first : ℕ) → sets buf first (kept n terms s at) ≡ sets buf (first + 0) (kept (n - 0) terms s at)
+kept-start n terms s at buf first =
+    let e : n ≡ n - 0 = omega arith in
+    let p : first ≡ first + 0 = omega arith in
+    ap₂ (λ (j k : ℕ). sets buf k (kept j terms s at)) e p
 
 module _ (n i terms : ℕ) (s : List ℕ) (at : ℕ) where
   module _ (more : i < n) where
@@ -36,15 +38,17 @@ module _ (n i terms : ℕ) (s : List ℕ) (at : ℕ) where
     unfolding rules
     rules-stop w h = rw (one, h)
 
-    -- the rule that was read is stored at i
-    pub kept-go : (buf : List ℕ) (r a : ℕ) → countedMask terms terms s at ≡ got r a
-        → sets buf i (kept (n - i) terms s at) ≡ sets (set buf i r) (i + 1) (kept (n - (i + 1)) terms s a)
+    -- the rule that was read is stored at first + i
+    pub kept-go : (buf : List ℕ) (first r a : ℕ) → countedMask terms terms s at ≡ got r a
+        → sets buf (first + i) (kept (n - i) terms s at) ≡ sets (set buf (first + i) r) (first + (i + 1)) (kept (n - (i + 1)) terms s a)
     unfolding kept
-    kept-go buf r a h = rw (one, h, add-one)
+    kept-go buf first r a h =
+        let p : suc (first + i) ≡ first + (i + 1) = omega arith in
+        rw (one, h) (ap (λ (k : ℕ). sets (set buf (first + i) r) k (kept (n - (i + 1)) terms s a)) p)
 
-    pub kept-stop : (buf : List ℕ) (w : Refusal) → countedMask terms terms s at ≡ refused w → sets buf i (kept (n - i) terms s at) ≡ buf
+    pub kept-stop : (buf : List ℕ) (first : ℕ) (w : Refusal) → countedMask terms terms s at ≡ refused w → sets buf first (kept (n - i) terms s at) ≡ buf
     unfolding kept
-    kept-stop buf w h = rw (one, h)
+    kept-stop buf first w h = rw (one, h)
 
   module _ (all : n ≤ i) where
     none : n - i ≡ 0
@@ -54,6 +58,6 @@ module _ (n i terms : ℕ) (s : List ℕ) (at : ℕ) where
     unfolding rules
     rules-done = rw none
 
-    pub kept-done : (buf : List ℕ) → sets buf i (kept (n - i) terms s at) ≡ buf
+    pub kept-done : (buf : List ℕ) (first : ℕ) → sets buf first (kept (n - i) terms s at) ≡ buf
     unfolding kept
-    kept-done buf = rw none
+    kept-done buf first = rw none

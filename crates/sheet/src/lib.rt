@@ -1,6 +1,7 @@
-// The job sheet, section by section (document 01, "Job sheet"). The pins stay in the sheet; the rules go to an array that
-// is scratch of the caller's. Sections are functions on the sheet and a place; read_job chains them with a Reader, which
-// holds both. The definition, readJob, stands in specs/JobSheet. Leans on the steps of `steps`.
+// The job sheet, section by section (document 01, "Job sheet"; document 02, request 2). The pins stay in the sheet; the
+// rules, and after them the excuses, go to an array that is scratch of the caller's. Sections are functions on the sheet
+// and a place; read_job chains them with a Reader, which holds both. The definition, readJob, stands in specs/JobSheet.
+// Leans on the steps of `steps`.
 use steps::Outcome;
 use steps::Read;
 use steps::Refusal;
@@ -12,19 +13,26 @@ use steps::refused_job;
 use steps::succeeded;
 use steps::why;
 ghost use mathlib.Core.Path.{_≡_};
-ghost use Prim.Native.Nat.{_≤_};
+ghost use Prim.Native.Nat.{_+_, _≤_};
 ghost use lib.Seq.{sets};
 ghost use Rattle.steps.specs.Bytes.{count, wordCount, end};
 ghost use Rattle.steps.specs.Found.{asRead, whyOf};
-ghost use Rattle.sheet.specs.JobSheet.{mask, countedMask, termsOf, readJob, wireLimit, ruleLimit, readOutcome};
-ghost use Rattle.sheet.specs.JobFound.{pinsPass, rulesPass, asJob, kept, keptRules};
+ghost use Rattle.sheet.specs.JobSheet.{mask, countedMask, termsOf, readJob, wireLimit, ruleLimit, excuseLimit, readOutcome};
+ghost use Rattle.sheet.specs.JobFound.{pinsPass, rulesPass, excusesPass, termsPass, asJob, kept, keptExcuses, keptTerms, keptMasks};
 
-// A job in numbers: the pins stay in the sheet, from pins_at on, and the rules go to an array beside it.
+// The form of a job sheet, which the caller names. Form two has a fifth section, the excuses.
+pub enum Form {
+    One,
+    Two,
+}
+
+// A job in numbers: the pins stay in the sheet, from pins_at on, and the rules and excuses go to an array beside it.
 pub struct JobHead {
     pub wires: u32,
     pub sees_a: u32,
     pub sees_b: u32,
     pub rules: u32,
+    pub excuses: u32,
     pub pins_at: usize,
 }
 
@@ -34,17 +42,19 @@ pub enum JobRead {
     Refused(Refusal),
 }
 
-// The most wires, the most wires that a cell sees, the most rules, and what pin numbers are below.
+// The most wires, the most wires that a cell sees, the most rules, the most excuses, and what pin numbers are below.
 pub const WIRE_LIMIT: u32 = 12;
 
 pub const SEEN_LIMIT: u32 = 8;
 
 pub const RULE_LIMIT: u32 = 256;
 
+const EXCUSE_LIMIT: u32 = 64;
+
 const PIN_LIMIT: u32 = 256;
 
-// The length of an array with room for the most rules.
-pub const RULES: usize = 256;
+// The length of an array with room for the most rules and the most excuses.
+pub const MASKS: usize = 320;
 
 // The pins, of which nothing is kept. An entry is one byte, so the next place waits for no answer.
 pub fn check_pins(sheet: &[u8], at: usize, count: u32) -> Read
@@ -99,11 +109,18 @@ pub fn read_counted_set(sheet: &[u8], at: usize, most: u32, limit: u32) -> Read
     read_set(sheet, next, n, limit)
 }
 
-// The rules, each stored as it is read.
-pub fn read_rules(sheet: &[u8], at: usize, count: u32, terms: u32, rules: &mut [u32; RULES]) -> Read
-    requires { ⌜ (count ≤ ruleLimit) × (terms ≤ 32) ⌝ }
+// Rules, or excuses: each is stored as it is read, the first of them at `first`.
+pub fn read_rules(
+    sheet: &[u8],
+    at: usize,
+    count: u32,
+    terms: u32,
+    masks: &mut [u32; MASKS],
+    first: u32,
+) -> Read
+    requires { ⌜ (first + count ≤ ruleLimit + excuseLimit) × (terms ≤ 32) ⌝ }
     ensures { λ r. ⌜ r ≡ asRead (rulesPass count terms (now (sheet .entry)) at) ⌝ }
-    ensures { λ r. ⌜ now (rules .exit) ≡ sets (now (rules .entry)) 0 (kept count terms (now (sheet .entry)) at) ⌝ }
+    ensures { λ r. ⌜ now (masks .exit) ≡ sets (now (masks .entry)) first (kept count terms (now (sheet .entry)) at) ⌝ }
 {
     let mut place = at;
     let mut i: u32 = 0;
@@ -112,7 +129,7 @@ pub fn read_rules(sheet: &[u8], at: usize, count: u32, terms: u32, rules: &mut [
         let Read::Got(bits, next) = rule else {
             return rule;
         };
-        rules[i as usize] = bits;
+        masks[(first + i) as usize] = bits;
         place = next;
         i += 1;
     }
@@ -125,6 +142,51 @@ pub fn term_limit(wires: u32) -> u32
     ensures { λ r. ⌜ r ≡ termsOf wires ⌝ }
 {
     2 * wires + 4
+}
+
+// The excuses, stored from `first` on: how many there are. An excuse has terms of wires alone, all but the last four.
+pub fn read_excuses(
+    form: Form,
+    sheet: &[u8],
+    at: usize,
+    wires: u32,
+    masks: &mut [u32; MASKS],
+    first: u32,
+) -> Read
+    requires { ⌜ (wires ≤ wireLimit) × (first ≤ ruleLimit) ⌝ }
+    ensures { λ r. ⌜ r ≡ asRead (excusesPass form wires (now (sheet .entry)) at) ⌝ }
+    ensures { λ r. ⌜ now (masks .exit) ≡ sets (now (masks .entry)) first (keptExcuses form wires (now (sheet .entry)) at) ⌝ }
+{
+    match form {
+        Form::One => Read::Got(0, at),
+        Form::Two => {
+            let counted = read_word_count(sheet, at, EXCUSE_LIMIT);
+            let Read::Got(count, next) = counted else {
+                return counted;
+            };
+            read_rules(sheet, next, count, term_limit(wires) - 4, masks, first)
+        }
+    }
+}
+
+// The rules and, in form two, the excuses after them: how many excuses there are.
+pub fn read_terms(
+    form: Form,
+    sheet: &[u8],
+    at: usize,
+    wires: u32,
+    count: u32,
+    masks: &mut [u32; MASKS],
+) -> Read
+    requires { ⌜ (wires ≤ wireLimit) × (count ≤ ruleLimit) ⌝ }
+    ensures { λ r. ⌜ r ≡ asRead (termsPass form wires count (now (sheet .entry)) at) ⌝ }
+    ensures { λ r. ⌜ now (masks .exit) ≡ sets (now (masks .entry)) 0 (keptTerms form wires count (now (sheet .entry)) at) ⌝ }
+{
+    let stored = read_rules(sheet, at, count, term_limit(wires), masks, 0);
+    let Read::Got(_, next) = stored else {
+        return stored;
+    };
+    read_excuses(form, sheet, next, wires, masks, count)
 }
 
 // While reading, the sheet and the place reached travel together. Each function over a Reader takes it apart and calls
@@ -187,10 +249,10 @@ fn stopped(x: Read) -> JobRead
     JobRead::Refused(why(x))
 }
 
-// The whole sheet, step by step. The rules go to the front of `rules`.
-pub fn read_job(sheet: &[u8], rules: &mut [u32; RULES]) -> JobRead
-    ensures { λ r. ⌜ r ≡ asJob (readJob (now (sheet .entry))) ⌝ }
-    ensures { λ r. ⌜ now (rules .exit) ≡ sets (now (rules .entry)) 0 (keptRules (now (sheet .entry))) ⌝ }
+// The whole sheet, step by step. The rules and then the excuses go to the front of `masks`.
+pub fn read_job(form: Form, sheet: &[u8], masks: &mut [u32; MASKS]) -> JobRead
+    ensures { λ r. ⌜ r ≡ asJob (readJob form (now (sheet .entry))) ⌝ }
+    ensures { λ r. ⌜ now (masks .exit) ≡ sets (now (masks .entry)) 0 (keptMasks form (now (sheet .entry))) ⌝ }
 {
     let reader = opened(sheet);
     let first = take_count(reader, WIRE_LIMIT);
@@ -213,8 +275,8 @@ pub fn read_job(sheet: &[u8], rules: &mut [u32; RULES]) -> JobRead
     let Read::Got(count, at_rules) = counted else {
         return stopped(counted);
     };
-    let stored = read_rules(sheet, at_rules, count, term_limit(wires), rules);
-    let Read::Got(_, last) = stored else {
+    let stored = read_terms(form, sheet, at_rules, wires, count, masks);
+    let Read::Got(excuses, last) = stored else {
         return stopped(stored);
     };
     let ended = at_end(moved(reader, last));
@@ -226,16 +288,18 @@ pub fn read_job(sheet: &[u8], rules: &mut [u32; RULES]) -> JobRead
         sees_a,
         sees_b,
         rules: count,
+        excuses,
         pins_at,
     })
 }
 
-// The reader: the outcome of a job sheet, for every string of bytes. The rules go to scratch of its own.
-pub fn read_sheet(sheet: &[u8]) -> Outcome
-    ensures { λ r. ⌜ r ≡ readOutcome (now (sheet .entry)) ⌝ }
+// The reader: the outcome of a job sheet, for either form and every string of bytes. The rules and excuses go to scratch of
+// its own.
+pub fn read_sheet(form: Form, sheet: &[u8]) -> Outcome
+    ensures { λ r. ⌜ r ≡ readOutcome form (now (sheet .entry)) ⌝ }
 {
-    let mut rules = [0u32; RULES];
-    let read = read_job(sheet, &mut rules);
+    let mut masks = [0u32; MASKS];
+    let read = read_job(form, sheet, &mut masks);
     match read {
         JobRead::Accepted(_) => succeeded(0, 0),
         JobRead::Refused(w) => refused_job(1, w),

@@ -15,6 +15,7 @@ use lib.ListN.{length, drop}
 use borrow.Author.Tests.{eqb-true, le-ltb, not-true}
 use Rattle.steps.specs.declared.Outcome.{Outcome}
 use Rattle.steps.specs.Outcome.{success}
+use Rattle.sheet.specs.declared.Form.{Form}
 use Rattle.sheet.specs.Job.{Job, Verdict, accepted, rejected}
 use Rattle.sheet.specs.JobSheet.{readJob}
 use Rattle.answer.specs.Answer.{Entry, tables, walk, AnswerVerdict, answered}
@@ -28,7 +29,8 @@ use Rattle.board.specs.Walk.{Stands}
 use Rattle.board.specs.Tests.{fitsb}
 use Rattle.board.specs.JobBoard.{jobBoard}
 use Rattle.board.specs.Check.{judgeTables}
-use Rattle.board.proofs.Tests.{or-cases, fitsb-iff, standsb-iff}
+use Rattle.wires.proofs.Sets.{or-cases}
+use Rattle.board.proofs.Tests.{fitsb-iff, standsb-iff}
 use Rattle.board.proofs.Checked.{joined-tables}
 use Rattle.solver.specs.Solved.{Wrote, Solved}
 use Rattle.solver.specs.Solved as solver
@@ -131,45 +133,45 @@ module _ (B : Board) where
 -- ---- the solver
 
 -- the first pair decides how the solver ends
-first-solves : (job : List ℕ) (j : Job) → readJob job ≡ accepted j → (xs ys : List ℕ) → IsPair (jobBoard j .rowsA) (jobBoard j .rowsB) xs ys
-    → First (jobBoard j) (xs ++ ys) → (sheet : List ℕ) → sheet ≡ tablesSheet xs ys → Solves job sheet
-first-solves job j is xs ys p f sheet e entry o exit room s =
+first-solves : (form : Form) (job : List ℕ) (j : Job) → readJob form job ≡ accepted j → (xs ys : List ℕ) → IsPair (jobBoard j .rowsA) (jobBoard j .rowsB) xs ys
+    → First (jobBoard j) (xs ++ ys) → (sheet : List ℕ) → sheet ≡ tablesSheet xs ys → Solves form job sheet
+first-solves form job j is xs ys p f sheet e entry o exit room s =
     go (same-ending s (solver.solved j is room (solver.tables xs ys p f (ap (λ (t : List ℕ). success 20 (length t)) e) (ap (λ (t : List ℕ). t ++ drop (length t) entry) e))))
   where
     go : SameEnding o (success 20 (length sheet)) exit (sheet ++ drop (length sheet) entry) → (o ≡ success 20 (length sheet)) × Wrote sheet entry exit
     go (inl same) = same
     go (inr both) = absurd (omega (arith, both .1))
 
-sheet-solves : (job : List ℕ) (j : Job) → readJob job ≡ accepted j → (sheet : List ℕ) (v : AnswerVerdict) → read (jobBoard j) sheet ≡ v
-    → firstSheetb (jobBoard j) v sheet ≡ true → Solves job sheet
-sheet-solves job j is sheet (answered (tables xs ys)) r e =
+sheet-solves : (form : Form) (job : List ℕ) (j : Job) → readJob form job ≡ accepted j → (sheet : List ℕ) (v : AnswerVerdict) → read (jobBoard j) sheet ≡ v
+    → firstSheetb (jobBoard j) v sheet ≡ true → Solves form job sheet
+sheet-solves form job j is sheet (answered (tables xs ys)) r e =
     let t = and-eq-true-iff (sameb sheet (tablesSheet xs ys)) (firstb (jobBoard j) (xs ++ ys)) .0 e in
     let p = tables-there _ _ _ sheet xs ys r .pair in
-    first-solves job j is xs ys p (firstb-first (jobBoard j) (xs ++ ys) (joined-tables (jobBoard j) xs ys p) (t .1))
+    first-solves form job j is xs ys p (firstb-first (jobBoard j) (xs ++ ys) (joined-tables (jobBoard j) xs ys p) (t .1))
     sheet (sameb-true sheet (tablesSheet xs ys) (t .0))
-sheet-solves job j is sheet (answered (walk es)) r e = absurd (false≢true e)
-sheet-solves job j is sheet (unanswered w) r e = absurd (false≢true e)
+sheet-solves form job j is sheet (answered (walk es)) r e = absurd (false≢true e)
+sheet-solves form job j is sheet (unanswered w) r e = absurd (false≢true e)
 
-solves-holds : (job sheet : List ℕ) (v : Verdict) → readJob job ≡ v → solvesb v sheet ≡ true → Solves job sheet
-solves-holds job sheet (accepted j) is e = sheet-solves job j is sheet (read (jobBoard j) sheet) refl e
-solves-holds job sheet (rejected w) is e = absurd (false≢true e)
+solves-holds : (form : Form) (job sheet : List ℕ) (v : Verdict) → readJob form job ≡ v → solvesb v sheet ≡ true → Solves form job sheet
+solves-holds form job sheet (accepted j) is e = sheet-solves form job j is sheet (read (jobBoard j) sheet) refl e
+solves-holds form job sheet (rejected w) is e = absurd (false≢true e)
 
-walks-holds : (job : List ℕ) (v : Verdict) → readJob job ≡ v → walksb v ≡ true → Walks job
-walks-holds job (accepted j) is e = ((j, is, none), ends)
+walks-holds : (form : Form) (job : List ℕ) (v : Verdict) → readJob form job ≡ v → walksb v ≡ true → Walks form job
+walks-holds form job (accepted j) is e = ((j, is, none), ends)
   where
     none : (T : List ℕ) → Pair (jobBoard j) T → ⊥
     none T p = noneb-none (jobBoard j) [] (rows (jobBoard j)) e T (p .tables .long) (table-bits (jobBoard j) T (p .tables)) (p .fits)
 
-    ends : (entry : List ℕ) (o : Outcome) (exit : List ℕ) → longest ≤ length entry → Solved job entry o exit → o .code ≡ 21
+    ends : (entry : List ℕ) (o : Outcome) (exit : List ℕ) → longest ≤ length entry → Solved form job entry o exit → o .code ≡ 21
     ends entry o exit room s =
-        walk-stands job entry o exit j is room s (λ c. let t = tables-iff job entry o exit j is room s .0 c in none (t .0) (t .1)) .code
-walks-holds job (rejected w) is e = absurd (false≢true e)
+        walk-stands form job entry o exit j is room s (λ c. let t = tables-iff form job entry o exit j is room s .0 c in none (t .0) (t .1)) .code
+walks-holds form job (rejected w) is e = absurd (false≢true e)
 
 -- ---- the checker
 
-stands-holds : (job : List ℕ) (es : List Entry) (v : Verdict) → readJob job ≡ v → standsOnb v es ≡ true → OnBoard job (λ B. Stands B es)
-stands-holds job es (accepted j) is e = (j, is, standsb-iff (jobBoard j) es .0 e)
-stands-holds job es (rejected w) is e = absurd (false≢true e)
+stands-holds : (form : Form) (job : List ℕ) (es : List Entry) (v : Verdict) → readJob form job ≡ v → standsOnb v es ≡ true → OnBoard form job (λ B. Stands B es)
+stands-holds form job es (accepted j) is e = (j, is, standsb-iff (jobBoard j) es .0 e)
+stands-holds form job es (rejected w) is e = absurd (false≢true e)
 
 -- ---- the widener
 
@@ -187,19 +189,19 @@ wide-to : (P : Job) (v : Verdict) (answer sheet : List ℕ) → widensTob P v an
 wide-to P (accepted Q) answer sheet e = wide-answer P Q (read (jobBoard P) answer) sheet e
 wide-to P (rejected w) answer sheet e = absurd (false≢true e)
 
-wide-from : (v : Verdict) (q answer sheet : List ℕ) → widensb v q answer sheet ≡ true
-    → (entry : List ℕ) → longest ≤ length entry → withNone v q answer entry ≡ writing sheet entry
-wide-from (accepted P) q answer sheet e = wide-to P (readJob q) answer sheet e
-wide-from (rejected w) q answer sheet e = absurd (false≢true e)
+wide-from : (form : Form) (v : Verdict) (q answer sheet : List ℕ) → widensb form v q answer sheet ≡ true
+    → (entry : List ℕ) → longest ≤ length entry → withNone form v q answer entry ≡ writing sheet entry
+wide-from form (accepted P) q answer sheet e = wide-to P (readJob form q) answer sheet e
+wide-from form (rejected w) q answer sheet e = absurd (false≢true e)
 
 -- ---- the cases
 
 pub passes-holds : (c : Case) → passes c ≡ true → Holds c
 unfolding passes widened
-passes-holds (solves job sheet) e = solves-holds job sheet (readJob job) refl e
-passes-holds (walks job) e = walks-holds job (readJob job) refl e
-passes-holds (stands job es) e =
-    let t = and-eq-true-iff (standsOnb (readJob job) es) (judgesb job (walkSheet es) (success 21 0)) .0 e in
-    (stands-holds job es (readJob job) refl (t .0), outcomeb-true _ _ (t .1))
-passes-holds (judges job answer outcome) e = outcomeb-true _ _ e
-passes-holds (widens p q answer sheet) e = wide-from (readJob p) q answer sheet e
+passes-holds (solves form job sheet) e = solves-holds form job sheet (readJob form job) refl e
+passes-holds (walks form job) e = walks-holds form job (readJob form job) refl e
+passes-holds (stands form job es) e =
+    let t = and-eq-true-iff (standsOnb (readJob form job) es) (judgesb form job (walkSheet es) (success 21 0)) .0 e in
+    (stands-holds form job es (readJob form job) refl (t .0), outcomeb-true _ _ (t .1))
+passes-holds (judges form job answer outcome) e = outcomeb-true _ _ e
+passes-holds (widens form p q answer sheet) e = wide-from form (readJob form p) q answer sheet e

@@ -12,6 +12,7 @@ use lib.Dec.{eqb}
 use lib.ListN.{length}
 use Rattle.steps.specs.declared.Outcome.{Outcome}
 use Rattle.steps.specs.Outcome.{success}
+use Rattle.sheet.specs.declared.Form.{Form}
 use Rattle.sheet.specs.Job.{Job, Verdict, accepted, rejected}
 use Rattle.sheet.specs.JobSheet.{readJob}
 use Rattle.answer.specs.Answer.{Entry, tables, walk, AnswerVerdict, answered}
@@ -70,8 +71,8 @@ abbrev pub standsOnb : Verdict → List Entry → Bool
 standsOnb (accepted j) es = standsb (jobBoard j) es
 standsOnb (rejected w) es = false
 
-abbrev pub judgesb : (job answer : List ℕ) → Outcome → Bool
-judgesb job answer outcome = outcomeb (checkOutcome job answer) outcome
+abbrev pub judgesb : Form → (job answer : List ℕ) → Outcome → Bool
+judgesb f job answer outcome = outcomeb (checkOutcome f job answer) outcome
 
 -- the answer fits P, Q asks no more, and the widened tables are on the sheet
 abbrev pub widensWithb : (P Q : Job) → AnswerVerdict → List ℕ → Bool
@@ -84,16 +85,16 @@ abbrev pub widensTob : Job → Verdict → (answer sheet : List ℕ) → Bool
 widensTob P (accepted Q) answer sheet = widensWithb P Q (read (jobBoard P) answer) sheet
 widensTob P (rejected w) answer sheet = false
 
-abbrev pub widensb : Verdict → (q answer sheet : List ℕ) → Bool
-widensb (accepted P) q answer sheet = widensTob P (readJob q) answer sheet
-widensb (rejected w) q answer sheet = false
+abbrev pub widensb : Form → Verdict → (q answer sheet : List ℕ) → Bool
+widensb f (accepted P) q answer sheet = widensTob P (readJob f q) answer sheet
+widensb f (rejected w) q answer sheet = false
 
 unfoldable pub passes : Case → Bool
-passes (solves job sheet) = solvesb (readJob job) sheet
-passes (walks job) = walksb (readJob job)
-passes (stands job es) = standsOnb (readJob job) es && judgesb job (walkSheet es) (success 21 0)
-passes (judges job answer outcome) = judgesb job answer outcome
-passes (widens p q answer sheet) = widensb (readJob p) q answer sheet
+passes (solves f job sheet) = solvesb (readJob f job) sheet
+passes (walks f job) = walksb (readJob f job)
+passes (stands f job es) = standsOnb (readJob f job) es && judgesb f job (walkSheet es) (success 21 0)
+passes (judges f job answer outcome) = judgesb f job answer outcome
+passes (widens f p q answer sheet) = widensb f (readJob f p) q answer sheet
 
 unfoldable pub every : (Case → Bool) → List Case → Bool
 every p [] = true

@@ -1,11 +1,14 @@
--- The sheets that document 01 marks with P ("Sheets on both sides of the line"), and what it says of each.
+-- The sheets that document 01 marks with P ("Sheets on both sides of the line"), and what it says of each; and the board with two speed wires of document
+-- 02's request 2, without its excuse and with it.
 --     J1 to J7, J6′, equal      job sheets, byte by byte
+--     speed, speed-two, speed-excused      the board with two speed wires, in form one, and in form two without and with its excuse
 --     by        a walk's entry: claim, combination
 --     papers    the list
 -- Assumes nothing: these are definitions.
-use mathlib.Core.List.{List, [], _∷_}
+use mathlib.Core.List.{List, [], _∷_, _++_}
 use Prim.Native.Nat.{ℕ}
 use Rattle.steps.specs.Outcome.{success, refusal}
+use Rattle.sheet.specs.declared.Form.the-variants.{One, Two}
 use Rattle.answer.specs.Answer.{Entry}
 use Rattle.answer.specs.Written.{tablesSheet, walkSheet}
 use Rattle.shown.specs.Cases.{Case, solves, walks, stands, judges, widens}
@@ -57,32 +60,60 @@ equal =
     ∷ 4 ∷ 1 ∷ 3 ∷ 5 ∷ 6
     ∷ []
 
+-- two speed wires: A sees the first and must be 1 where it is, B the second likewise, and A and B are never both 1
+abbrev pub speed : List ℕ
+speed = 2 ∷ 2 ∷ 3 ∷ 1 ∷ 0 ∷ 1 ∷ 1 ∷ 3 ∷ 0 ∷ 2 ∷ 1 ∷ 4 ∷ 2 ∷ 3 ∷ 6 ∷ 2 ∷ 5 ∷ 7 ∷ []
+
+abbrev pub speed-two : List ℕ
+speed-two = speed ++ (0 ∷ 0 ∷ [])
+
+-- the wires are never both 1
+abbrev pub speed-excused : List ℕ
+speed-excused = speed ++ (1 ∷ 0 ∷ 2 ∷ 0 ∷ 2 ∷ [])
+
+-- the same with the empty excuse, which excuses all
+abbrev pub speed-free : List ℕ
+speed-free = speed ++ (1 ∷ 0 ∷ 0 ∷ [])
+
 abbrev pub by : (claim combination : ℕ) → Entry
 by c a = record { says = c; by = a }
 
 unfoldable pub papers : List Case
 papers =
     -- J1: answer 01 00 00 01 00 00 00 00
-    solves J1 (1 ∷ 0 ∷ 0 ∷ 1 ∷ 0 ∷ 0 ∷ 0 ∷ 0 ∷ [])
-    ∷ judges J1 (1 ∷ 0 ∷ 0 ∷ 1 ∷ 0 ∷ 0 ∷ 0 ∷ 0 ∷ []) (success 20 0)
+    solves One J1 (1 ∷ 0 ∷ 0 ∷ 1 ∷ 0 ∷ 0 ∷ 0 ∷ 0 ∷ [])
+    ∷ judges One J1 (1 ∷ 0 ∷ 0 ∷ 1 ∷ 0 ∷ 0 ∷ 0 ∷ 0 ∷ []) (success 20 0)
     -- J2: A 00, B 11
-    ∷ solves J2 (tablesSheet (0 ∷ 0 ∷ []) (1 ∷ 1 ∷ []))
+    ∷ solves One J2 (tablesSheet (0 ∷ 0 ∷ []) (1 ∷ 1 ∷ []))
     -- J3: no pair, and a walk that stands
-    ∷ walks J3
-    ∷ stands J3 (by 0 2 ∷ by 7 3 ∷ by 3 3 ∷ by 6 2 ∷ by 1 0 ∷ by 5 0 ∷ [])
+    ∷ walks One J3
+    ∷ stands One J3 (by 0 2 ∷ by 7 3 ∷ by 3 3 ∷ by 6 2 ∷ by 1 0 ∷ by 5 0 ∷ [])
     -- J4: a walk that stands
-    ∷ stands J4 (by 0 0 ∷ by 2 0 ∷ by 1 0 ∷ by 2 0 ∷ [])
+    ∷ stands One J4 (by 0 0 ∷ by 2 0 ∷ by 1 0 ∷ by 2 0 ∷ [])
     -- J5: A 0, B 1, and a walk that gets 13
-    ∷ solves J5 (tablesSheet (0 ∷ []) (1 ∷ []))
-    ∷ judges J5 (walkSheet (by 0 0 ∷ by 3 0 ∷ [])) (refusal 13 2 0)
+    ∷ solves One J5 (tablesSheet (0 ∷ []) (1 ∷ []))
+    ∷ judges One J5 (walkSheet (by 0 0 ∷ by 3 0 ∷ [])) (refusal 13 2 0)
     -- J6: A 0, B 01
-    ∷ solves J6 (tablesSheet (0 ∷ []) (0 ∷ 1 ∷ []))
+    ∷ solves One J6 (tablesSheet (0 ∷ []) (0 ∷ 1 ∷ []))
     -- J7: a walk that stands
-    ∷ stands J7 (by 2 1 ∷ by 1 1 ∷ by 3 0 ∷ by 1 0 ∷ [])
+    ∷ stands One J7 (by 2 1 ∷ by 1 1 ∷ by 3 0 ∷ by 1 0 ∷ [])
     -- J6 widened to A seeing the wire too: A 00, B 01
-    ∷ widens J6 J6′ (tablesSheet (0 ∷ []) (0 ∷ 1 ∷ [])) (tablesSheet (0 ∷ 0 ∷ []) (0 ∷ 1 ∷ []))
+    ∷ widens One J6 J6′ (tablesSheet (0 ∷ []) (0 ∷ 1 ∷ [])) (tablesSheet (0 ∷ 0 ∷ []) (0 ∷ 1 ∷ []))
     -- A equals B exactly when the wires are equal: A 01, B 01
-    ∷ solves equal (tablesSheet (0 ∷ 1 ∷ []) (0 ∷ 1 ∷ []))
+    ∷ solves One equal (tablesSheet (0 ∷ 1 ∷ []) (0 ∷ 1 ∷ []))
     -- a walk of the one entry (0,0) for J1: code 12, sheet 2, place 0
-    ∷ judges J1 (walkSheet (by 0 0 ∷ [])) (refusal 12 2 0)
+    ∷ judges One J1 (walkSheet (by 0 0 ∷ [])) (refusal 12 2 0)
+    -- the speed wires: no pair in either form, and a walk that stands
+    ∷ walks One speed
+    ∷ stands One speed (by 3 3 ∷ by 6 3 ∷ by 2 3 ∷ by 6 3 ∷ [])
+    ∷ walks Two speed-two
+    ∷ stands Two speed-two (by 3 3 ∷ by 6 3 ∷ by 2 3 ∷ by 6 3 ∷ [])
+    -- with the excuse A 01, B 01, though both are 1 where both wires are; of the walk no step holds
+    ∷ solves Two speed-excused (tablesSheet (0 ∷ 1 ∷ []) (0 ∷ 1 ∷ []))
+    ∷ judges Two speed-excused (tablesSheet (0 ∷ 1 ∷ []) (0 ∷ 1 ∷ [])) (success 20 0)
+    ∷ judges Two speed-excused (walkSheet (by 3 3 ∷ by 6 3 ∷ by 2 3 ∷ by 6 3 ∷ [])) (refusal 12 2 0)
+    ∷ judges Two speed-two (tablesSheet (0 ∷ 1 ∷ []) (0 ∷ 1 ∷ [])) (refusal 10 2 3)
+    -- the empty excuse: any tables fit, and the first are of 0. Its job asks no more
+    ∷ solves Two speed-free (tablesSheet (0 ∷ 0 ∷ []) (0 ∷ 0 ∷ []))
+    ∷ widens Two speed-excused speed-free (tablesSheet (0 ∷ 1 ∷ []) (0 ∷ 1 ∷ [])) (tablesSheet (0 ∷ 1 ∷ []) (0 ∷ 1 ∷ []))
     ∷ []

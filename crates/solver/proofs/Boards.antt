@@ -2,33 +2,35 @@
 --     taken-no-room, taken-solved      how a call ends whose job was accepted
 --     same-solved                      boards that no combination tells apart are solved alike
 --     unpack-room, asks-a, asks-b      the arrays have a place for each combination
+--     strikes                          the excuses are there, and of wires' terms
 --     sound, board-solved              filled arrays are a sound grid, and its board is solved as that of the job
 -- Assumes nothing.
 use mathlib.Core.Path.{_≡_, refl, sym, subst, _∙_}
 use mathlib.Core.Bool.{Bool, true, false}
 use mathlib.Core.List.{List, _++_}
-use mathlib.Core.Logic.{_↔_}
-use Prim.Native.Nat.{ℕ, _+_, _*_, _%_, _^_, _<_, _≤_}
+use Prim.Native.Nat.{ℕ, _+_, _*_, _-_, _%_, _^_, _<_, _≤_}
 use native.Mathlib.Omega.{arith}
 use borrow.Author.Tests.{eqb-true, eq-eqb}
 use lib.Count.{ones}
 use lib.Dec.{eqb}
-use lib.ListN.{length, getD, take}
+use lib.ListN.{length, getD, take, drop, length-drop}
 use lib.Pow.{pow-mono}
-use lib.Seq.{getD-take, length-take-le}
+use lib.Seq.{getD-drop}
 use Rattle.steps.specs.declared.Outcome.{Outcome}
 use Rattle.steps.specs.Outcome.{refusal}
+use Rattle.sheet.specs.declared.Form.{Form}
 use Rattle.sheet.specs.declared.JobHead.{JobHead}
-use Rattle.wires.specs.Terms.{Fault}
+use Rattle.wires.specs.Terms.{Setting}
+use Rattle.wires.proofs.Sets.{same-test}
 use Rattle.answer.specs.AnswerSheet.{longest}
 use Rattle.board.specs.Board.{Board, Shows, rows}
-use Rattle.board.specs.JobBoard.{breaksb, headBoard, Sized}
+use Rattle.board.specs.JobBoard.{headBoard, Sized}
 use Rattle.board.proofs.Accepting.{Taken}
 use Rattle.board.proofs.Checked.{shows}
-use Rattle.board.proofs.Rules.{breaksb-iff}
+use Rattle.board.proofs.Rules.{front-faultb, slice-from}
 use Rattle.theory.specs.Same.{Same}
 use Rattle.theory.proofs.Same.{same-sym, same-shows, stands-same, first-same}
-use Rattle.faults.specs.Table.{Faults, bit as digit}
+use Rattle.faults.specs.Table.{Faults, Struck, Strikes, bit as digit}
 use Rattle.grid.specs.declared.Shape.{Shape}
 use Rattle.grid.specs.Grid.{grid, bit, Sound, gridBoard}
 use Rattle.grid.specs.Filled.{Asks, Rows, Faulted}
@@ -36,11 +38,11 @@ use Rattle.solver.specs.Solved.{SolvedOn, tables, walk, Solved, noRoom, 
 
 -- ---- an accepted job
 
-module _ {s : List ℕ} {h : JobHead} {rules : List ℕ} (t : Taken s h rules) where
-  pub taken-no-room : {entry : List ℕ} {o : Outcome} → length entry < longest → o ≡ refusal 6 0 0 → Solved s entry o entry
+module _ {f : Form} {s : List ℕ} {h : JobHead} {masks : List ℕ} (t : Taken f s h masks) where
+  pub taken-no-room : {entry : List ℕ} {o : Outcome} → length entry < longest → o ≡ refusal 6 0 0 → Solved f s entry o entry
   taken-no-room short e = noRoom (t .job) (t .is) short e refl
 
-  pub taken-solved : {entry exit : List ℕ} {o : Outcome} → longest ≤ length entry → SolvedOn (headBoard h rules) entry o exit → Solved s entry o exit
+  pub taken-solved : {entry exit : List ℕ} {o : Outcome} → longest ≤ length entry → SolvedOn (headBoard h masks) entry o exit → Solved f s entry o exit
   taken-solved {entry} {exit} {o} room x = solved (t .job) (t .is) room (subst (λ (B : Board). SolvedOn B entry o exit) (t .board) x)
 
 -- ---- boards that no combination tells apart
@@ -54,22 +56,7 @@ module _ {P Q : Board} (ok : Shows P) (s : Same P Q) where
 
 -- ---- the arrays of a job
 
--- two tests that are true together are the same
-same-test : (p q : Bool) → (p ≡ true → q ≡ true) → (q ≡ true → p ≡ true) → p ≡ q
-same-test true q f g = sym (f refl)
-same-test false true f g = g refl
-same-test false false f g = refl
-
--- only the first `count` rules are looked at
-front-faults : (n : ℕ) (rules : List ℕ) (count a x y : ℕ) → count ≤ length rules
-    → Fault n (take count rules) (length (take count rules)) a x y ↔ Fault n rules count a x y
-front-faults n rules count a x y l =
-    let long = length-take-le count rules l in (
-      λ f. let h : f .0 < count = omega (arith, f .1) in (f .0, h, rw (getD-take count rules (f .0) 0 h) at (f .2)),
-      λ f. (f .0, omega (arith, f .1), rw (getD-take count rules (f .0) 0 (f .1)) (f .2)),
-    )
-
-module _ {h : JobHead} {rules : List ℕ} (z : Sized h rules) where
+module _ {h : JobHead} {masks : List ℕ} (z : Sized h masks) where
   -- the combinations as a shift computes them
   abbrev combinations : ℕ
   combinations = (1 * 2 ^ h .wires) % 18446744073709551616
@@ -92,10 +79,19 @@ module _ {h : JobHead} {rules : List ℕ} (z : Sized h rules) where
   abbrev shape : (ra rb : ℕ) → Shape
   shape ra rb = record { wires = h .wires; «sees_a» = h .«sees_a»; «sees_b» = h .«sees_b»; «rows_a» = ra; «rows_b» = rb; combinations = combinations }
 
-  -- blank arrays were filled: the faults of the table are fs, and the rows shown to A and to B are xs and ys
-  module _ (blank : List ℕ) (room : length blank ≡ 4096) (ra rb : ℕ) (table fs xs ys : List ℕ)
+  pub strikes : (s : List ℕ) → length s ≡ 1024 → Strikes (h .wires) (take (length masks - h .rules) (drop (h .rules) masks)) (h .excuses) s
+  strikes s l = rw (slice-from masks (h .rules)) record {
+    wires = omega (arith, z .wires);
+    there = omega (arith, z .count, length-drop (h .rules) masks);
+    small = λ i m. rw (getD-drop (h .rules) masks i 0) (z .excuses i m);
+    size = l;
+  }
+
+  -- blank arrays were filled: the table of the rules' faults is all, struck where the excuses are it is table, its faults are fs, and the rows shown to A
+  -- and to B are xs and ys
+  module _ (blank : List ℕ) (room : length blank ≡ 4096) (ra rb : ℕ) (all table fs xs ys : List ℕ)
       (is-ra : ra ≡ 2 ^ ones (h .«sees_a»)) (is-rb : rb ≡ 2 ^ ones (h .«sees_b»))
-      (told : Faults (h .wires) rules (h .rules) table) (unpacked : Faulted combinations table blank fs) (rows-a : Rows (h .wires) (h .«sees_a») blank xs)
+      (told : Faults (h .wires) masks (h .rules) all) (struck : Struck (h .wires) (take (length masks - h .rules) (drop (h .rules) masks)) (h .excuses) all table) (unpacked : Faulted combinations table blank fs) (rows-a : Rows (h .wires) (h .«sees_a») blank xs)
       (rows-b : Rows (h .wires) (h .«sees_b») blank ys) where
     pub sound : Sound (grid (shape ra rb) xs ys fs)
     sound = record {
@@ -117,15 +113,17 @@ module _ {h : JobHead} {rules : List ℕ} (z : Sized h rules) where
     }
 
     breaks-same : (a x y : ℕ) → a < 2 ^ h .wires → x < 2 → y < 2
-        → breaksb (h .wires) (take (h .rules) rules) a x y ≡ eqb (bit (getD fs a 0) (2 * x + y)) 1
+        → headBoard h masks .breaks a x y ≡ eqb (bit (getD fs a 0) (2 * x + y)) 1
     breaks-same a x y l lx ly =
         let digits : bit (getD fs a 0) (2 * x + y) ≡ digit table a x y = unpacked .bits a x y (rw are l) lx ly in
-        let tells = told .tells a x y (record { wires = omega (arith, z .wires); below = l; cell-a = lx; cell-b = ly }) in
-        let front = front-faults (h .wires) rules (h .rules) a x y (z .count) in
-        let test = breaksb-iff (h .wires) (take (h .rules) rules) a x y in
-        same-test _ _ (λ e. eq-eqb _ 1 (digits ∙ tells .1 (front .0 (test .0 e)))) (λ e. test .1 (front .1 (tells .0 (sym digits ∙ eqb-true _ 1 e))))
+        let at : Setting (h .wires) a x y = record { wires = omega (arith, z .wires); below = l; cell-a = lx; cell-b = ly } in
+        let tells = told .tells a x y at in
+        let left = rw (slice-from masks (h .rules)) at (struck .tells a x y at) in
+        let test = front-faultb (h .wires) masks (h .rules) (h .excuses) a x y (z .count) in
+        same-test _ _ (λ e. let t = test .0 e in eq-eqb _ 1 (digits ∙ left .1 (tells .1 (t .0), t .1)))
+        (λ e. let t = left .0 (sym digits ∙ eqb-true _ 1 e) in test .1 (tells .0 (t .0), t .1))
 
-    same : Same (headBoard h rules) (gridBoard (grid (shape ra rb) xs ys fs))
+    same : Same (headBoard h masks) (gridBoard (grid (shape ra rb) xs ys fs))
     same = record {
       rowsA = sym is-ra;
       rowsB = sym is-rb;
@@ -136,5 +134,5 @@ module _ {h : JobHead} {rules : List ℕ} (z : Sized h rules) where
     }
 
     pub board-solved : {entry exit : List ℕ} {o : Outcome}
-        → SolvedOn (gridBoard (grid (shape ra rb) xs ys fs)) entry o exit → SolvedOn (headBoard h rules) entry o exit
-    board-solved x = same-solved (shows (h .wires) (h .«sees_a») (h .«sees_b») (take (h .rules) rules)) same x
+        → SolvedOn (gridBoard (grid (shape ra rb) xs ys fs)) entry o exit → SolvedOn (headBoard h masks) entry o exit
+    board-solved x = same-solved (shows (h .wires) (h .«sees_a») (h .«sees_b») (take (h .rules) masks) (take (h .excuses) (drop (h .rules) masks))) same x

@@ -6,7 +6,8 @@
 --     checked              the checker accepts exactly the bytes reported, with the same code
 --     beyond-stays         every byte beyond them is as it was; on a refusal every byte is
 --     same-ending          two endings for one job and one buffer are equal, or both are walks
---     first-bytes          the first 7,458 bytes of a longer job decide
+--     same-job             two sheets, in whichever forms, that are read as one job end alike
+--     first-bytes          the first 7,458 bytes of a longer job decide, and in form two the first 9,060
 -- Assumes nothing.
 use mathlib.Core.Path.{_≡_, refl, sym, ap, subst, _∙_}
 use mathlib.Core.List.{List, _++_}
@@ -18,6 +19,7 @@ use lib.Seq.{take-append-seam, drop-append-seam, take-at, drop-at}
 use Rattle.steps.specs.declared.Outcome.{Outcome}
 use Rattle.steps.specs.declared.Refusal.{Refusal}
 use Rattle.steps.specs.Outcome.{success, refusal, refusedJob}
+use Rattle.sheet.specs.declared.Form.{Form}
 use Rattle.sheet.specs.Job.{Job, Verdict, accepted, rejected}
 use Rattle.sheet.specs.JobSheet.{readJob}
 use Rattle.sheet.specs.JobSheet.{longest as longestJob}
@@ -38,14 +40,14 @@ use Rattle.solver.specs.Solved.{Wrote, SolvedOn, tables, walk, Solved, r
 
 -- a pair exists exactly if no walk stands
 pub pair-iff-no-walk : (j : Job) → ((T : List ℕ) × Pair (jobBoard j) T) ↔ (¬ ((w : List Entry) × Stands (jobBoard j) w))
-pair-iff-no-walk j = theory.pair-iff-no-walk (jobBoard j) (shows _ _ _ _)
+pair-iff-no-walk j = theory.pair-iff-no-walk (jobBoard j) (shows _ _ _ _ _)
 
 -- two verdicts on one sheet are the same
-one-job : (s : List ℕ) (i j : Job) → readJob s ≡ accepted i → readJob s ≡ accepted j → i ≡ j
-one-job s i j p q = cc
+one-job : (f : Form) (s : List ℕ) (i j : Job) → readJob f s ≡ accepted i → readJob f s ≡ accepted j → i ≡ j
+one-job f s i j p q = cc
 
-never-both : (s : List ℕ) (j : Job) (w : Refusal) → readJob s ≡ accepted j → readJob s ≡ rejected w → ⊥
-never-both s j w p q = let z : _≡_ {A = ℕ} 0 1 = cc in omega arith
+never-both : (f : Form) (s : List ℕ) (j : Job) (w : Refusal) → readJob f s ≡ accepted j → readJob f s ≡ rejected w → ⊥
+never-both f s j w p q = let z : _≡_ {A = ℕ} 0 1 = cc in omega arith
 
 code-is : {o p : Outcome} → o ≡ p → o .code ≡ p .code
 code-is e = ap (λ (x : Outcome). x .code) e
@@ -76,13 +78,13 @@ front sheet entry exit n w e = ap (take n) w ∙ take-at sheet (drop (length she
 
 -- ---- an accepted job, with room
 
-module _ (job entry : List ℕ) (o : Outcome) (exit : List ℕ) (j : Job) (is : readJob job ≡ accepted j) (room : longest ≤ length entry) where
-  ended : Solved job entry o exit → SolvedOn (jobBoard j) entry o exit
-  ended (refused w e p q) = absurd (never-both job j w is e)
+module _ (form : Form) (job entry : List ℕ) (o : Outcome) (exit : List ℕ) (j : Job) (is : readJob form job ≡ accepted j) (room : longest ≤ length entry) where
+  ended : Solved form job entry o exit → SolvedOn (jobBoard j) entry o exit
+  ended (refused w e p q) = absurd (never-both form job j w is e)
   ended (noRoom i e l p q) = absurd (omega arith)
-  ended (solved i e l s) = subst (λ (k : Job). SolvedOn (jobBoard k) entry o exit) (one-job job i j e is) s
+  ended (solved i e l s) = subst (λ (k : Job). SolvedOn (jobBoard k) entry o exit) (one-job form job i j e is) s
 
-  pub tables-iff : Solved job entry o exit → (o .code ≡ 20) ↔ ((T : List ℕ) × Pair (jobBoard j) T)
+  pub tables-iff : Solved form job entry o exit → (o .code ≡ 20) ↔ ((T : List ℕ) × Pair (jobBoard j) T)
   tables-iff s = (to (ended s), from (ended s))
     where
       to : SolvedOn (jobBoard j) entry o exit → o .code ≡ 20 → (T : List ℕ) × Pair (jobBoard j) T
@@ -91,30 +93,30 @@ module _ (job entry : List ℕ) (o : Outcome) (exit : List ℕ) (j : Job) (is : 
 
       from : SolvedOn (jobBoard j) entry o exit → (T : List ℕ) × Pair (jobBoard j) T → o .code ≡ 20
       from (tables xs ys p f e w) t = code-is e
-      from (walk es p st l e w) t = absurd (soundness (jobBoard j) (shows _ _ _ _) es st (t .0) (t .1))
+      from (walk es p st l e w) t = absurd (soundness (jobBoard j) (shows _ _ _ _ _) es st (t .0) (t .1))
 
-  pub tables-first : Solved job entry o exit → o .code ≡ 20 → Tabled (jobBoard j) entry o exit
+  pub tables-first : Solved form job entry o exit → o .code ≡ 20 → Tabled (jobBoard j) entry o exit
   tables-first s c = go (ended s)
     where
       go : SolvedOn (jobBoard j) entry o exit → Tabled (jobBoard j) entry o exit
       go (tables xs ys p f e w) = record { xs = xs; ys = ys; first = f; wrote = w; written = written-is e }
       go (walk es p st l e w) = absurd (omega (arith, code-is e))
 
-  pub walk-stands : Solved job entry o exit → (o .code ≡ 20 → ⊥) → Walked (jobBoard j) entry o exit
+  pub walk-stands : Solved form job entry o exit → (o .code ≡ 20 → ⊥) → Walked (jobBoard j) entry o exit
   walk-stands s c = go (ended s)
     where
       go : SolvedOn (jobBoard j) entry o exit → Walked (jobBoard j) entry o exit
       go (tables xs ys p f e w) = absurd (c (code-is e))
       go (walk es p st l e w) = record { es = es; stands = st; short = l; code = code-is e; wrote = w; written = written-is e }
 
-  pub checked : Solved job entry o exit → checkOutcome job (take (o .written) exit) ≡ success (o .code) 0
+  pub checked : Solved form job entry o exit → checkOutcome form job (take (o .written) exit) ≡ success (o .code) 0
   checked s = go (ended s)
     where
-      go : SolvedOn (jobBoard j) entry o exit → checkOutcome job (take (o .written) exit) ≡ success (o .code) 0
+      go : SolvedOn (jobBoard j) entry o exit → checkOutcome form job (take (o .written) exit) ≡ success (o .code) 0
       go (tables xs ys p f e w) =
-          ap (checkOutcome job) (front (tablesSheet xs ys) entry exit (o .written) w (written-is e)) ∙ accepts-tables job j xs ys is p (f .pair .fits) ∙ ap (λ (c : ℕ). success c 0) (sym (code-is e))
+          ap (checkOutcome form job) (front (tablesSheet xs ys) entry exit (o .written) w (written-is e)) ∙ accepts-tables form job j xs ys is p (f .pair .fits) ∙ ap (λ (c : ℕ). success c 0) (sym (code-is e))
       go (walk es p st l e w) =
-          ap (checkOutcome job) (front (walkSheet es) entry exit (o .written) w (written-is e)) ∙ accepts-walk job j es is p st ∙ ap (λ (c : ℕ). success c 0) (sym (code-is e))
+          ap (checkOutcome form job) (front (walkSheet es) entry exit (o .written) w (written-is e)) ∙ accepts-walk form job j es is p st ∙ ap (λ (c : ℕ). success c 0) (sym (code-is e))
 
 -- ---- every call
 
@@ -122,11 +124,11 @@ wrote-beyond : (sheet entry exit : List ℕ) (n : ℕ) → Wrote sheet entry exi
 wrote-beyond sheet entry exit n w e =
     ap (drop n) w ∙ drop-at sheet (drop (length sheet) entry) n (sym e) ∙ ap (λ (k : ℕ). drop k entry) (sym e)
 
-pub beyond-stays : {job entry : List ℕ} {o : Outcome} {exit : List ℕ} → Solved job entry o exit → drop (o .written) exit ≡ drop (o .written) entry
-beyond-stays {job} {entry} {o} {exit} (refused w e p q) = ap (drop (o .written)) q
-beyond-stays {job} {entry} {o} {exit} (noRoom j e l p q) = ap (drop (o .written)) q
-beyond-stays {job} {entry} {o} {exit} (solved j e l (tables xs ys p f c w)) = wrote-beyond (tablesSheet xs ys) entry exit (o .written) w (written-is c)
-beyond-stays {job} {entry} {o} {exit} (solved j e l (walk es p st m c w)) = wrote-beyond (walkSheet es) entry exit (o .written) w (written-is c)
+pub beyond-stays : {form : Form} {job entry : List ℕ} {o : Outcome} {exit : List ℕ} → Solved form job entry o exit → drop (o .written) exit ≡ drop (o .written) entry
+beyond-stays {form} {job} {entry} {o} {exit} (refused w e p q) = ap (drop (o .written)) q
+beyond-stays {form} {job} {entry} {o} {exit} (noRoom j e l p q) = ap (drop (o .written)) q
+beyond-stays {form} {job} {entry} {o} {exit} (solved j e l (tables xs ys p f c w)) = wrote-beyond (tablesSheet xs ys) entry exit (o .written) w (written-is c)
+beyond-stays {form} {job} {entry} {o} {exit} (solved j e l (walk es p st m c w)) = wrote-beyond (walkSheet es) entry exit (o .written) w (written-is c)
 
 -- the rows of A are settled by the board, so a list is cut into two tables in one way
 cut-once : (n : ℕ) (xs ys us vs : List ℕ) → length xs ≡ n → length us ≡ n → xs ++ ys ≡ us ++ vs → (xs ≡ us) × (ys ≡ vs)
@@ -150,25 +152,26 @@ module _ {entry : List ℕ} {o p : Outcome} {exit exit′ : List ℕ} where
   on-one B sound (walk es r st l c v) (tables xs ys q f e w) = absurd (sound es st (xs ++ ys) (f .pair))
   on-one B sound (walk es q st l e w) (walk fs r su m c v) = inr (code-is e, code-is c)
 
-module _ {job entry : List ℕ} {o p : Outcome} {exit exit′ : List ℕ} where
-  pub same-ending : Solved job entry o exit → Solved job entry p exit′ → SameEnding o p exit exit′
+module _ {form : Form} {job entry : List ℕ} {o p : Outcome} {exit exit′ : List ℕ} where
+  pub same-ending : Solved form job entry o exit → Solved form job entry p exit′ → SameEnding o p exit exit′
   same-ending (refused w e c q) (refused v f d r) = let k : w ≡ v = cc in inl (c ∙ ap (refusedJob 1) k ∙ sym d, q ∙ sym r)
-  same-ending (refused w e c q) (noRoom j f l d r) = absurd (never-both job j w f e)
-  same-ending (refused w e c q) (solved j f l s) = absurd (never-both job j w f e)
-  same-ending (noRoom j e l c q) (refused w f d r) = absurd (never-both job j w e f)
+  same-ending (refused w e c q) (noRoom j f l d r) = absurd (never-both form job j w f e)
+  same-ending (refused w e c q) (solved j f l s) = absurd (never-both form job j w f e)
+  same-ending (noRoom j e l c q) (refused w f d r) = absurd (never-both form job j w e f)
   same-ending (noRoom j e l c q) (noRoom i f m d r) = inl (c ∙ sym d, q ∙ sym r)
   same-ending (noRoom j e l c q) (solved i f m s) = absurd (omega arith)
-  same-ending (solved j e l s) (refused w f d r) = absurd (never-both job j w e f)
+  same-ending (solved j e l s) (refused w f d r) = absurd (never-both form job j w e f)
   same-ending (solved j e l s) (noRoom i f m d r) = absurd (omega arith)
   same-ending (solved j e l s) (solved i f m t) =
-      on-one (jobBoard j) (soundness (jobBoard j) (shows _ _ _ _)) s (subst (λ (k : Job). SolvedOn (jobBoard k) entry p exit′) (one-job job i j f e) t)
+      on-one (jobBoard j) (soundness (jobBoard j) (shows _ _ _ _ _)) s (subst (λ (k : Job). SolvedOn (jobBoard k) entry p exit′) (one-job form job i j f e) t)
 
--- ---- the first bytes of the job decide
+-- ---- sheets that are read as one
 
-move : {job jab entry : List ℕ} {o : Outcome} {exit : List ℕ} → readJob jab ≡ readJob job → Solved job entry o exit → Solved jab entry o exit
-move e (refused w f c q) = refused w (e ∙ f) c q
-move e (noRoom j f l c q) = noRoom j (e ∙ f) l c q
-move e (solved j f l s) = solved j (e ∙ f) l s
+pub same-job : {f g : Form} {job jab entry : List ℕ} {o : Outcome} {exit : List ℕ} → readJob g jab ≡ readJob f job → Solved f job entry o exit → Solved g jab entry o exit
+same-job e (refused w r c q) = refused w (e ∙ r) c q
+same-job e (noRoom j r l c q) = noRoom j (e ∙ r) l c q
+same-job e (solved j r l s) = solved j (e ∙ r) l s
 
-pub first-bytes : (job entry : List ℕ) (o : Outcome) (exit : List ℕ) → Solved job entry o exit ↔ Solved (take (longestJob + 1) job) entry o exit
-first-bytes job entry o exit = (move (first-decide job), move (sym (first-decide job)))
+-- the first bytes of the job decide
+pub first-bytes : (f : Form) (job entry : List ℕ) (o : Outcome) (exit : List ℕ) → Solved f job entry o exit ↔ Solved f (take (longestJob f + 1) job) entry o exit
+first-bytes f job entry o exit = (same-job (first-decide f job), same-job (sym (first-decide f job)))

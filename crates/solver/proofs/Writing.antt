@@ -14,7 +14,7 @@ use lib.ListN.{length, take, drop, length-append, length-drop}
 use lib.Seq.{sets, sets-eq, length-sets, take-all, length-take-le}
 use Rattle.answer.specs.AnswerSheet.{longest}
 use Rattle.answer.specs.Written.{two, table, tablesSheet}
-use Rattle.answer.proofs.Runs.{joined}
+use Rattle.steps.proofs.Runs.{joined}
 use Rattle.answer.proofs.Sheets.{tables-length}
 use Rattle.solver.specs.Solved.{Wrote}
 

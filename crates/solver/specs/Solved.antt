@@ -1,7 +1,7 @@
 -- How a solver call can end (document 01, demand 2 and "Outcome numbers").
 --     Wrote         one sheet stands at the front of the lent buffer, and every byte beyond it is as it was
 --     SolvedOn      on a board: the first pair, or a walk that stands
---     Solved        for every job and every buffer: refused, no room, tables, or a walk
+--     Solved        for either form, every job and every buffer: refused, no room, tables, or a walk
 -- Assumes nothing: these are definitions.
 use mathlib.Core.Path.{_≡_}
 use mathlib.Core.List.{List, _++_}
@@ -10,6 +10,7 @@ use lib.ListN.{length, drop}
 use Rattle.steps.specs.declared.Outcome.{Outcome}
 use Rattle.steps.specs.declared.Refusal.{Refusal}
 use Rattle.steps.specs.Outcome.{success, refusal, refusedJob}
+use Rattle.sheet.specs.declared.Form.{Form}
 use Rattle.sheet.specs.Job.{Job, accepted, rejected}
 use Rattle.sheet.specs.JobSheet.{readJob}
 use Rattle.answer.specs.Answer.{Entry}
@@ -35,7 +36,7 @@ pub data SolvedOn (B : Board) (entry : List ℕ) (o : Outcome) (exit : List ℕ)
       → o ≡ success 21 (length (walkSheet es)) → Wrote (walkSheet es) entry exit → SolvedOn B entry o exit
 
 -- Solver: 1–5, then 6. Refusals write 0 bytes; all buffers keep their contents.
-pub data Solved (job entry : List ℕ) (o : Outcome) (exit : List ℕ) : Type 0 where
-  refused : (w : Refusal) → readJob job ≡ rejected w → o ≡ refusedJob 1 w → exit ≡ entry → Solved job entry o exit
-  noRoom : (j : Job) → readJob job ≡ accepted j → length entry < longest → o ≡ refusal 6 0 0 → exit ≡ entry → Solved job entry o exit
-  solved : (j : Job) → readJob job ≡ accepted j → longest ≤ length entry → SolvedOn (jobBoard j) entry o exit → Solved job entry o exit
+pub data Solved (f : Form) (job entry : List ℕ) (o : Outcome) (exit : List ℕ) : Type 0 where
+  refused : (w : Refusal) → readJob f job ≡ rejected w → o ≡ refusedJob 1 w → exit ≡ entry → Solved f job entry o exit
+  noRoom : (j : Job) → readJob f job ≡ accepted j → length entry < longest → o ≡ refusal 6 0 0 → exit ≡ entry → Solved f job entry o exit
+  solved : (j : Job) → readJob f job ≡ accepted j → longest ≤ length entry → SolvedOn (jobBoard j) entry o exit → Solved f job entry o exit

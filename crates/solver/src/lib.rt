@@ -7,12 +7,14 @@ use answer::write_rows;
 use answer::write_table;
 use answer::write_two;
 use faults::fill_faults;
+use faults::strike;
 use grid::Shape;
 use grid::fill_rows;
 use grid::unpack;
+use sheet::Form;
 use sheet::JobHead;
 use sheet::JobRead;
-use sheet::RULES;
+use sheet::MASKS;
 use spread::opposite;
 use spread::spread;
 use spread::write_back;
@@ -238,10 +240,10 @@ fn solve_grid(shape: Shape, row_a: &[u8], row_b: &[u8], faults: &[u8], answer: &
 }
 
 // Solves the board of an accepted job: its arrays are filled once.
-fn solve_board(h: JobHead, rules: &[u32], answer: &mut [u8]) -> Outcome
-    requires { ⌜ Sized h (now rules) ⌝ }
+fn solve_board(h: JobHead, masks: &[u32], answer: &mut [u8]) -> Outcome
+    requires { ⌜ Sized h (now masks) ⌝ }
     requires { ⌜ longest ≤ length (now answer) ⌝ }
-    ensures { λ r. ⌜ SolvedOn (headBoard h (now (rules .entry))) (now (answer .entry)) r (now (answer .exit)) ⌝ }
+    ensures { λ r. ⌜ SolvedOn (headBoard h (now (masks .entry))) (now (answer .entry)) r (now (answer .exit)) ⌝ }
 {
     let combinations: usize = 1 << h.wires;
     let shape = Shape {
@@ -252,8 +254,10 @@ fn solve_board(h: JobHead, rules: &[u32], answer: &mut [u8]) -> Outcome
         rows_b: row_count(h.sees_b),
         combinations,
     };
+    let count = h.rules as usize;
     let mut table = [0u64; 1024];
-    fill_faults(h.wires, rules, h.rules as usize, &mut table);
+    fill_faults(h.wires, masks, count, &mut table);
+    strike(h.wires, &masks[count..], h.excuses as usize, &mut table);
     let mut faults = [0u8; COMBINATIONS];
     unpack(&table, combinations, &mut faults);
     let mut row_a = [0u8; COMBINATIONS];
@@ -263,18 +267,18 @@ fn solve_board(h: JobHead, rules: &[u32], answer: &mut [u8]) -> Outcome
     solve_grid(shape, &row_a, &row_b, &faults, answer)
 }
 
-// The solver: for every job sheet and every lent buffer.
-pub fn solve(job: &[u8], answer: &mut [u8]) -> Outcome
-    ensures { λ r. ⌜ Solved (now (job .entry)) (now (answer .entry)) r (now (answer .exit)) ⌝ }
+// The solver: for either form, every job sheet and every lent buffer.
+pub fn solve(form: Form, job: &[u8], answer: &mut [u8]) -> Outcome
+    ensures { λ r. ⌜ Solved form (now (job .entry)) (now (answer .entry)) r (now (answer .exit)) ⌝ }
 {
-    let mut rules = [0u32; RULES];
-    let read = sheet::read_job(job, &mut rules);
+    let mut masks = [0u32; MASKS];
+    let read = sheet::read_job(form, job, &mut masks);
     match read {
         JobRead::Accepted(h) => {
             if answer.len() < LONGEST {
                 return refused(6, 0, 0);
             }
-            solve_board(h, &rules, answer)
+            solve_board(h, &masks, answer)
         }
         JobRead::Refused(w) => refused_job(1, w),
     }

@@ -2,6 +2,7 @@
 use mathlib.Core.Path.{_≡_, refl, sym, ap, _∙_}
 use mathlib.Core.Bool.{Bool, true, false}
 use mathlib.Core.List.{List, [], _∷_}
+use mathlib.Core.Logic.{_⊎_, inl, inr}
 use Prim.Native.Nat.{ℕ, zero, suc, _+_, _-_, _≤_, _<_}
 use native.Mathlib.Nat.{not-suc-le-zero}
 use native.Mathlib.Omega.{arith}
@@ -24,8 +25,16 @@ pub next-inv : {A B : Type 0} (t : Step A) (k : A → ℕ → Step B) (v : B) (n
 next-inv (got a m) k v n h = (a, m, refl, h)
 next-inv (refused w) k v n h = absurd (apart v n w (sym h))
 
+-- and what one that was refused did
+pub next-not : {A B : Type 0} (t : Step A) (k : A → ℕ → Step B) (w : Refusal) → next t k ≡ refused w → (t ≡ refused w) ⊎ ((a : A) × (m : ℕ) × (t ≡ got a m) × (k a m ≡ refused w))
+next-not (got a m) k w h = inr (a, m, refl, h)
+next-not (refused v) k w h = let e : v ≡ w = cc in inl (ap refused e)
+
 pub got-inj : {A : Type 0} (a b : A) (n m : ℕ) → got a n ≡ got b m → a ≡ b
 got-inj a b n m h = cc
+
+pub place-same : {A : Type 0} {a b : A} {n m : ℕ} → got a n ≡ got b m → n ≡ m
+place-same h = cc
 
 picked : (b : Bool) (x y v n : ℕ) (w : Refusal) → pick b (got x y) (refused w) ≡ got v n → v ≡ x
 picked true x y v n w h = cc

@@ -1,3 +1,4 @@
 pub mod Steps
 pub mod Entries
 pub mod Near
+pub mod Runs

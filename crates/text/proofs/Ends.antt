@@ -17,8 +17,11 @@ use Rattle.steps.specs.declared.Outcome.{Outcome}
 use Rattle.steps.specs.declared.Refusal.{Refusal}
 use Rattle.steps.specs.declared.Refusal.the-variants.{Ends, TooMany, NotRising, TooHigh, LeftOver, OtherKind, NotABit, OutOfRange}
 use Rattle.steps.specs.Outcome.{codeOf, success, refusedJob}
+use Rattle.sheet.specs.declared.Form.{Form}
+use Rattle.sheet.specs.declared.Form.the-variants.{One, Two}
 use Rattle.sheet.specs.Job.{Job, accepted, rejected}
 use Rattle.sheet.specs.JobSheet.{readJob}
+use Rattle.sheet.specs.JobSheet.{longest as longestJob}
 use Rattle.sheet.proofs.Length.{place-small}
 use Rattle.sheet.proofs.Laws.{job-bounds, seen-bounds}
 use Rattle.answer.specs.Answer.{Entry}
@@ -132,6 +135,11 @@ walk-found s es q e =
 
 -- ---- what a code tells
 
+-- a job sheet is short enough for its places to be told in four digits
+job-short : (form : Form) → longestJob form + 1 < 10000
+job-short One = omega arith
+job-short Two = omega arith
+
 code-low : (w : Refusal) → codeOf w < 20
 code-low (Ends p) = omega arith
 code-low (TooMany p) = omega arith
@@ -145,33 +153,33 @@ code-low (OutOfRange p) = omega arith
 code-of : {o p : Outcome} → o ≡ p → o .code ≡ p .code
 code-of e = ap (λ (x : Outcome). x .code) e
 
-record TablesEnd (job s : List ℕ) : Type 0 where
+record TablesEnd (form : Form) (job s : List ℕ) : Type 0 where
   pub j : Job
   pub xs : List ℕ
   pub ys : List ℕ
-  pub is : readJob job ≡ accepted j
+  pub is : readJob form job ≡ accepted j
   pub pair : IsPair (jobBoard j .rowsA) (jobBoard j .rowsB) xs ys
   pub first : First (jobBoard j) (xs ++ ys)
   pub long : 6 + length xs + length ys ≤ length s
   pub found : TablesFound s xs ys
 
-record WalkEnd (job s : List ℕ) : Type 0 where
+record WalkEnd (form : Form) (job s : List ℕ) : Type 0 where
   pub j : Job
   pub es : List Entry
-  pub is : readJob job ≡ accepted j
+  pub is : readJob form job ≡ accepted j
   pub walks : IsWalk (2 * rows (jobBoard j)) (jobBoard j .combinations) es
   pub stands : Stands (jobBoard j) es
   pub few : length es ≤ 4 * rows (jobBoard j) - 2
   pub long : 6 + 4 * length es ≤ length s
   pub found : WalkFound s es
 
-record RefusedEnd (job : List ℕ) (o : Outcome) : Type 0 where
+record RefusedEnd (form : Form) (job : List ℕ) (o : Outcome) : Type 0 where
   pub why : Refusal
-  pub is : readJob job ≡ rejected why
+  pub is : readJob form job ≡ rejected why
   pub outcome : o ≡ refusedJob 1 why
 
-module _ (job entry s : List ℕ) (o : Outcome) (room : longest ≤ length entry) where
-  tables-on : (j : Job) → readJob job ≡ accepted j → SolvedOn (jobBoard j) entry o s → o .code ≡ 20 → TablesEnd job s
+module _ (form : Form) (job entry s : List ℕ) (o : Outcome) (room : longest ≤ length entry) where
+  tables-on : (j : Job) → readJob form job ≡ accepted j → SolvedOn (jobBoard j) entry o s → o .code ≡ 20 → TablesEnd form job s
   tables-on j is (tabled xs ys p f e w) c =
       let l = ap length w ∙ length-append (tablesSheet xs ys) (drop (length (tablesSheet xs ys)) entry) in
       record {
@@ -186,7 +194,7 @@ module _ (job entry s : List ℕ) (o : Outcome) (room : longest ≤ length entry
       }
   tables-on j is (walked es p st l e w) c = let no : ⊥ = omega (arith, code-of e) in absurd no
 
-  walk-on : (j : Job) → readJob job ≡ accepted j → SolvedOn (jobBoard j) entry o s → o .code ≡ 21 → WalkEnd job s
+  walk-on : (j : Job) → readJob form job ≡ accepted j → SolvedOn (jobBoard j) entry o s → o .code ≡ 21 → WalkEnd form job s
   walk-on j is (tabled xs ys p f e w) c = let no : ⊥ = omega (arith, code-of e) in absurd no
   walk-on j is (walked es p st few e w) c =
       let l = ap length w ∙ length-append (walkSheet es) (drop (length (walkSheet es)) entry) in
@@ -201,12 +209,12 @@ module _ (job entry s : List ℕ) (o : Outcome) (room : longest ≤ length entry
         found = walk-found s es (drop (length (walkSheet es)) entry) w;
       }
 
-  tables-end : Solved job entry o s → o .code ≡ 20 → TablesEnd job s
+  tables-end : Solved form job entry o s → o .code ≡ 20 → TablesEnd form job s
   tables-end (refused w e p q) c = let no : ⊥ = omega (arith, code-of p, code-low w) in absurd no
   tables-end (noRoom j e l p q) c = let no : ⊥ = omega arith in absurd no
   tables-end (solved j e l on) c = tables-on j e on c
 
-  walk-end : Solved job entry o s → o .code ≡ 21 → WalkEnd job s
+  walk-end : Solved form job entry o s → o .code ≡ 21 → WalkEnd form job s
   walk-end (refused w e p q) c = let no : ⊥ = omega (arith, code-of p, code-low w) in absurd no
   walk-end (noRoom j e l p q) c = let no : ⊥ = omega arith in absurd no
   walk-end (solved j e l on) c = walk-on j e on c
@@ -215,19 +223,19 @@ module _ (job entry s : List ℕ) (o : Outcome) (room : longest ≤ length entry
   neither B (tabled xs ys p f e w) m n = m (code-of e)
   neither B (walked es p st few e w) m n = n (code-of e)
 
-  refused-end : Solved job entry o s → (o .code ≡ 20 → ⊥) → (o .code ≡ 21 → ⊥) → RefusedEnd job o
+  refused-end : Solved form job entry o s → (o .code ≡ 20 → ⊥) → (o .code ≡ 21 → ⊥) → RefusedEnd form job o
   refused-end (refused w e p q) m n = record { why = w; is = e; outcome = p }
   refused-end (noRoom j e l p q) m n = let no : ⊥ = omega arith in absurd no
   refused-end (solved j e l on) m n = absurd (neither (jobBoard j) on m n)
 
   -- ---- what the printing functions ask
 
-  module _ (sol : Solved job entry o s) (out : List ℕ) (large : longestText ≤ length out) where
+  module _ (sol : Solved form job entry o s) (out : List ℕ) (large : longestText ≤ length out) where
     pub tables-ask : o .code ≡ 20 → TablesAsk s out
     tables-ask c =
         let t = tables-end sol c in
         let f = t .found in
-        let m = seen-bounds job (t .j) (t .is) in
+        let m = seen-bounds form job (t .j) (t .is) in
         let la : jobBoard (t .j) .rowsA ≤ 256 = pow-mono (m .0) in
         let lb : jobBoard (t .j) .rowsB ≤ 256 = pow-mono (m .1) in
         let pa = t .pair .longA in
@@ -247,8 +255,8 @@ module _ (job entry s : List ℕ) (o : Outcome) (room : longest ≤ length entry
     walk-ask c =
         let t = walk-end sol c in
         let f = t .found in
-        let m = seen-bounds job (t .j) (t .is) in
-        let b = job-bounds job (t .j) (t .is) in
+        let m = seen-bounds form job (t .j) (t .is) in
+        let b = job-bounds form job (t .j) (t .is) in
         let la : jobBoard (t .j) .rowsA ≤ 256 = pow-mono (m .0) in
         let lb : jobBoard (t .j) .rowsB ≤ 256 = pow-mono (m .1) in
         let lc : jobBoard (t .j) .combinations ≤ 4096 = pow-mono (b .0) in
@@ -264,7 +272,7 @@ module _ (job entry s : List ℕ) (o : Outcome) (room : longest ≤ length entry
     pub refused-ask : (o .code ≡ 20 → ⊥) → (o .code ≡ 21 → ⊥) → (o .place < 10000) × (longestText ≤ length out)
     refused-ask m n =
         let t = refused-end sol m n in
-        (omega (arith, ap (λ (x : Outcome). x .place) (t .outcome), place-small job (t .why) (t .is)), large)
+        (omega (arith, ap (λ (x : Outcome). x .place) (t .outcome), place-small form job (t .why) (t .is), job-short form), large)
 
     -- ---- what they print
 
@@ -272,19 +280,19 @@ module _ (job entry s : List ℕ) (o : Outcome) (room : longest ≤ length entry
       printed : (t u : List ℕ) → u ≡ t → Prints u out exit r → Printed t out o₂ exit
       printed t u e p = record { outcome = end ∙ ap (success 0) (p .long ∙ ap length e); bytes = p .bytes ∙ ap (λ (l : List ℕ). l ++ drop (length l) out) e }
 
-      pub tables-ends : o .code ≡ 20 → Prints (tablesOf s) out exit r → Texted job out o₂ exit
+      pub tables-ends : o .code ≡ 20 → Prints (tablesOf s) out exit r → Texted form job out o₂ exit
       tables-ends c p =
           let t = tables-end sol c in
           let f = t .found in
           let e : tablesOf s ≡ tablesText (t .xs) (t .ys) = λ i. tablesText (f .rowsA i) (f .rowsB i) in
           tabling (t .j) (t .xs) (t .ys) large (t .is) (t .pair) (t .first) (printed _ _ e p)
 
-      pub walk-ends : o .code ≡ 21 → Prints (walkOf s) out exit r → Texted job out o₂ exit
+      pub walk-ends : o .code ≡ 21 → Prints (walkOf s) out exit r → Texted form job out o₂ exit
       walk-ends c p =
           let t = walk-end sol c in
           walking (t .j) (t .es) large (t .is) (t .walks) (t .stands) (t .few) (printed _ _ (ap walkText (t .found .entries)) p)
 
-      pub refused-ends : (o .code ≡ 20 → ⊥) → (o .code ≡ 21 → ⊥) → Prints (refusedText o) out exit r → Texted job out o₂ exit
+      pub refused-ends : (o .code ≡ 20 → ⊥) → (o .code ≡ 21 → ⊥) → Prints (refusedText o) out exit r → Texted form job out o₂ exit
       refused-ends m n p =
           let t = refused-end sol m n in
           told (t .why) large (t .is) (printed _ _ (ap refusedText (t .outcome)) p)
@@ -294,7 +302,7 @@ module _ (job entry s : List ℕ) (o : Outcome) (room : longest ≤ length entry
 printed-fits : {t entry : List ℕ} {o : Outcome} {exit : List ℕ} → Printed t entry o exit → o .written ≤ length exit
 printed-fits {t} {entry} p = omega (arith, ap (λ (x : Outcome). x .written) (p .outcome), ap length (p .bytes), length-append t (drop (length t) entry))
 
-pub texted-fits : {job entry : List ℕ} {o : Outcome} {exit : List ℕ} → Texted job entry o exit → o .written ≤ length exit
+pub texted-fits : {form : Form} {job entry : List ℕ} {o : Outcome} {exit : List ℕ} → Texted form job entry o exit → o .written ≤ length exit
 texted-fits (tight _ e _) = omega (arith, ap (λ (x : Outcome). x .written) e)
 texted-fits (told _ _ _ p) = printed-fits p
 texted-fits (tabling _ _ _ _ _ _ _ p) = printed-fits p

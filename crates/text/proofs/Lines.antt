@@ -13,7 +13,7 @@ use native.Mathlib.Omega.{arith}
 use lib.ListN.{length, length-append}
 use lib.Seq.{sets, length-sets}
 use Rattle.answer.specs.Answer.{Entry}
-use Rattle.answer.proofs.Runs.{sets-append}
+use Rattle.steps.proofs.Runs.{sets-append}
 use Rattle.board.specs.Places.{wordAt, claimIn, combinationIn}
 use Rattle.solver.proofs.Writing.{wrote}
 use Rattle.text.specs.Decimal.{decimal}

@@ -10,7 +10,7 @@ use native.Mathlib.Omega.{arith}
 use lib.ListN.{length, length-append}
 use lib.Seq.{sets, length-sets}
 use Rattle.steps.specs.declared.Outcome.{Outcome}
-use Rattle.answer.proofs.Runs.{joined}
+use Rattle.steps.proofs.Runs.{joined}
 use Rattle.solver.proofs.Writing.{wrote}
 use Rattle.text.specs.Decimal.{decimal}
 use Rattle.text.specs.Text.{longestText, headRefused, refusedText}

@@ -13,7 +13,7 @@ use native.Mathlib.Omega.{arith}
 use lib.ListN.{length, getD, set, take, drop, length-append, length-drop, length-map, drop-of-length-le}
 use lib.Seq.{sets, drop-cons, length-sets, length-take-le}
 use Rattle.board.specs.Places.{wordAt}
-use Rattle.answer.proofs.Runs.{joined}
+use Rattle.steps.proofs.Runs.{joined}
 use Rattle.solver.proofs.Writing.{wrote}
 use Rattle.text.specs.Text.{digits, headA, headB, tablesText}
 use Rattle.text.specs.Printing.{Small, Prints, TablesAsk, tablesOf}

@@ -2,7 +2,7 @@
 --     tablesText     `tables` and then `A ` and `B ` with each row's digit, rows rising
 --     walkText       `walk` and then one line per entry, claim, a space, combination, in decimal
 --     refusedText    one line of `refused`, code, sheet and place, in decimal with one space between
---     Texted         how a call can end, for every job and every buffer
+--     Texted         how a call can end, for either form, every job and every buffer
 -- Assumes nothing: these are definitions.
 use mathlib.Core.Path.{_≡_}
 use mathlib.Core.List.{List, [], _∷_, _++_, map}
@@ -11,6 +11,7 @@ use lib.ListN.{length, drop}
 use Rattle.steps.specs.declared.Outcome.{Outcome}
 use Rattle.steps.specs.declared.Refusal.{Refusal}
 use Rattle.steps.specs.Outcome.{success, refusal, refusedJob}
+use Rattle.sheet.specs.declared.Form.{Form}
 use Rattle.sheet.specs.Job.{Job, accepted, rejected}
 use Rattle.sheet.specs.JobSheet.{readJob}
 use Rattle.answer.specs.Answer.{Entry}
@@ -65,12 +66,12 @@ pub record Printed (t entry : List ℕ) (o : Outcome) (exit : List ℕ) : Type 0
   pub outcome : o ≡ success 0 (length t)
   pub bytes : exit ≡ t ++ drop (length t) entry
 
-pub data Texted (job entry : List ℕ) (o : Outcome) (exit : List ℕ) : Type 0 where
-  noRoom : length entry < longestText → o ≡ refusal 6 0 0 → exit ≡ entry → Texted job entry o exit
-  refused : (w : Refusal) → longestText ≤ length entry → readJob job ≡ rejected w → Printed (refusedText (refusedJob 1 w)) entry o exit → Texted job entry o exit
+pub data Texted (f : Form) (job entry : List ℕ) (o : Outcome) (exit : List ℕ) : Type 0 where
+  noRoom : length entry < longestText → o ≡ refusal 6 0 0 → exit ≡ entry → Texted f job entry o exit
+  refused : (w : Refusal) → longestText ≤ length entry → readJob f job ≡ rejected w → Printed (refusedText (refusedJob 1 w)) entry o exit → Texted f job entry o exit
   tables :
-      (j : Job) (xs ys : List ℕ) → longestText ≤ length entry → readJob job ≡ accepted j → IsPair (jobBoard j .rowsA) (jobBoard j .rowsB) xs ys
-      → First (jobBoard j) (xs ++ ys) → Printed (tablesText xs ys) entry o exit → Texted job entry o exit
+      (j : Job) (xs ys : List ℕ) → longestText ≤ length entry → readJob f job ≡ accepted j → IsPair (jobBoard j .rowsA) (jobBoard j .rowsB) xs ys
+      → First (jobBoard j) (xs ++ ys) → Printed (tablesText xs ys) entry o exit → Texted f job entry o exit
   walk :
-      (j : Job) (es : List Entry) → longestText ≤ length entry → readJob job ≡ accepted j → IsWalk (2 * rows (jobBoard j)) (jobBoard j .combinations) es
-      → Stands (jobBoard j) es → length es ≤ 4 * rows (jobBoard j) - 2 → Printed (walkText es) entry o exit → Texted job entry o exit
+      (j : Job) (es : List Entry) → longestText ≤ length entry → readJob f job ≡ accepted j → IsWalk (2 * rows (jobBoard j)) (jobBoard j .combinations) es
+      → Stands (jobBoard j) es → length es ≤ 4 * rows (jobBoard j) - 2 → Printed (walkText es) entry o exit → Texted f job entry o exit

@@ -2,6 +2,7 @@
 // the refusal. Every byte is given by a definition in specs/Text. Leans on the solver.
 use answer::LONGEST;
 use answer::write_rows;
+use sheet::Form;
 use steps::Outcome;
 use steps::refused;
 use steps::succeeded;
@@ -129,15 +130,15 @@ fn print_refused(o: Outcome, out: &mut [u8]) -> usize
     write_byte(out, after_place, 10)
 }
 
-// What the bench program prints for a job sheet, for every string of bytes and every lent buffer.
-pub fn text(job: &[u8], out: &mut [u8]) -> Outcome
-    ensures { λ r. ⌜ Texted (now (job .entry)) (now (out .entry)) r (now (out .exit)) ⌝ }
+// What the bench program of a form prints for a job sheet, for every string of bytes and every lent buffer.
+pub fn text(form: Form, job: &[u8], out: &mut [u8]) -> Outcome
+    ensures { λ r. ⌜ Texted form (now (job .entry)) (now (out .entry)) r (now (out .exit)) ⌝ }
 {
     if out.len() < LONGEST_TEXT {
         return refused(6, 0, 0);
     }
     let mut answer = [0u8; LONGEST];
-    let o = solver::solve(job, &mut answer);
+    let o = solver::solve(form, job, &mut answer);
     let code = o.code;
     if code == 20 {
         let written = print_tables(&answer, out);

@@ -1,41 +1,55 @@
 -- Two jobs that were taken from their sheets: whether Q asks no more than P, part by part in the order of the source.
---     pins-in         the pins stand in the sheet
+--     pins-in, rules-in, excuses-in      the pins stand in the sheet, and the rules and excuses among the masks
 --     other-wires     the numbers of wires differ
 --     asks-as         with as many wires, the test over what was found
---     other-pins, unseen-a, unseen-b, asks-rest      the ends, each after the parts before it
+--     other-pins, unseen-a, unseen-b, more-rules, asks-rest      the ends, each after the parts before it
 -- Assumes nothing.
 use mathlib.Core.Path.{_≡_, refl, sym, ap, _∙_}
 use mathlib.Core.Bool.{Bool, true, false, not, _&&_}
 use mathlib.Core.List.{List}
-use Prim.Native.Nat.{ℕ, _+_, _<_, _≤_}
+use Prim.Native.Nat.{ℕ, _+_, _-_, _<_, _≤_}
 use native.Mathlib.Omega.{arith}
 use borrow.Author.Tests.{not-true, not-false}
 use lib.ListN.{length, take, drop, length-take, length-drop}
 use Rattle.steps.specs.Bytes.{byte, count}
 use Rattle.steps.proofs.Entries.{next-inv, byte-in}
+use Rattle.sheet.specs.declared.Form.{Form}
 use Rattle.sheet.specs.declared.JobHead.{JobHead}
 use Rattle.sheet.specs.Job.{Job, accepted}
 use Rattle.sheet.specs.JobSheet.{head, job, readJob, wireLimit}
 use Rattle.sheet.proofs.Laws.{accepted-inv, pins-stay}
-use Rattle.widener.specs.Asks.{containsb, samePins, allWithin, asksb}
+use Rattle.wires.specs.Terms.{containsb}
+use Rattle.widener.specs.Asks.{samePins, allWithin, asksb}
+use Rattle.board.proofs.Rules.{slice-from}
 use Rattle.widener.specs.Taking.{TakenAs}
 use Rattle.widener.proofs.Within.{pins-length}
 
 -- a sheet that is accepted has a byte
-some-byte : (s : List ℕ) (j : Job) → readJob s ≡ accepted j → 0 < length s
+some-byte : (f : Form) (s : List ℕ) (j : Job) → readJob f s ≡ accepted j → 0 < length s
 unfolding readJob job head count
-some-byte s j ok =
-    let a = accepted-inv (job s 0) j ok in
+some-byte f s j ok =
+    let a = accepted-inv (job f s 0) j ok in
     let h = next-inv (head s 0) _ j (a .0) (a .1) in
     let n = next-inv (count wireLimit s 0) _ (h .0) (h .1) (h .2) in
     let b = next-inv (byte s 0) _ (n .0) (n .1) (n .2) in
     byte-in s 0 (b .0) (b .1) (b .2)
 
-pub pins-in : (s : List ℕ) (h : JobHead) (rules : List ℕ) (j : Job) (n : ℕ) → TakenAs s h rules j → n ≡ h .wires → 1 + n ≤ length s
-pins-in s h rules j n t e =
+pub pins-in : (s : List ℕ) (h : JobHead) (masks : List ℕ) (j : Job) (n : ℕ) → TakenAs s h masks j → n ≡ h .wires → 1 + n ≤ length s
+pins-in s h masks j n t e =
     let all : h .wires ≡ length (j .pins) = ap (λ (k : JobHead). k .wires) (t .head) in
-    let found : length (j .pins) ≡ length (take (length (j .pins)) (drop 1 s)) = ap length (pins-stay s j (t .is)) in
-    omega (arith, length-take (length (j .pins)) (drop 1 s), length-drop 1 s, some-byte s j (t .is))
+    let found : length (j .pins) ≡ length (take (length (j .pins)) (drop 1 s)) = ap length (pins-stay (t .form) s j (t .is)) in
+    omega (arith, length-take (length (j .pins)) (drop 1 s), length-drop 1 s, some-byte (t .form) s j (t .is))
+
+-- the rules stand at the front of the masks, and the excuses behind them
+abbrev behind : JobHead → List ℕ → List ℕ
+behind h masks = take (length masks - h .rules) (drop (h .rules) masks)
+
+module _ {s : List ℕ} {h : JobHead} (masks : List ℕ) (j : Job) (t : TakenAs s h masks j) where
+  pub rules-in : h .rules ≤ length masks
+  rules-in = omega (arith, t .sized .count)
+
+  pub excuses-in : h .excuses ≤ length (behind h masks)
+  excuses-in = rw (slice-from masks (h .rules)) (omega (arith, t .sized .count, length-drop (h .rules) masks))
 
 -- a test with a first part that fails, and with one that passes
 fails-first : (a b c : Bool) → a ≡ b && c → b ≡ false → false ≡ a
@@ -69,17 +83,20 @@ module _ (p q : List ℕ) (hp hq : JobHead) (rp rq : List ℕ) (P Q : Job) (tp :
   abbrev rulesAll : Bool
   rulesAll = allWithin (take (hp .rules) rp) (take (hq .rules) rq)
 
+  abbrev excusesAll : Bool
+  excusesAll = allWithin (take (hq .excuses) (drop (hq .rules) rq)) (take (hp .excuses) (drop (hp .rules) rp))
+
   module _ (wires : hp .wires ≡ hq .wires) where
-    pub asks-as : asksb P Q ≡ pinsAlike && (seesA && (seesB && rulesAll))
+    pub asks-as : asksb P Q ≡ pinsAlike && (seesA && (seesB && (rulesAll && excusesAll)))
     unfolding asksb
-    asks-as = rw (pinsP, pinsQ, tp .rules-are, tq .rules-are, aP, aQ, bP, bQ) refl
+    asks-as = rw (pinsP, pinsQ, tp .rules-are, tq .rules-are, tp .excuses-are, tq .excuses-are, aP, aQ, bP, bQ) refl
       where
         pinsP : take (hp .wires) (drop 1 p) ≡ P .pins
-        pinsP = ap (λ (k : JobHead). take (k .wires) (drop 1 p)) (tp .head) ∙ sym (pins-stay p P (tp .is))
+        pinsP = ap (λ (k : JobHead). take (k .wires) (drop 1 p)) (tp .head) ∙ sym (pins-stay (tp .form) p P (tp .is))
 
         pinsQ : take (hp .wires) (drop 1 q) ≡ Q .pins
         pinsQ =
-            ap (λ (n : ℕ). take n (drop 1 q)) wires ∙ ap (λ (k : JobHead). take (k .wires) (drop 1 q)) (tq .head) ∙ sym (pins-stay q Q (tq .is))
+            ap (λ (n : ℕ). take n (drop 1 q)) wires ∙ ap (λ (k : JobHead). take (k .wires) (drop 1 q)) (tq .head) ∙ sym (pins-stay (tq .form) q Q (tq .is))
 
         aP : hp .«sees_a» ≡ P .seesA
         aP = ap (λ (k : JobHead). k .«sees_a») (tp .head)
@@ -98,18 +115,25 @@ module _ (p q : List ℕ) (hp hq : JobHead) (rp rq : List ℕ) (P Q : Job) (tp :
       other-pins e = fails-first _ _ _ asks-as (sym is-x ∙ not-true x e)
 
       module _ (okx : not x ≡ false) (y : Bool) (is-y : y ≡ seesA) where
-        after-pins : asksb P Q ≡ seesA && (seesB && rulesAll)
+        after-pins : asksb P Q ≡ seesA && (seesB && (rulesAll && excusesAll))
         after-pins = after-first _ _ _ asks-as (sym is-x ∙ not-false x okx)
 
         pub unseen-a : not y ≡ true → false ≡ asksb P Q
         unseen-a e = fails-first _ _ _ after-pins (sym is-y ∙ not-true y e)
 
         module _ (oky : not y ≡ false) (z : Bool) (is-z : z ≡ seesB) where
-          after-a : asksb P Q ≡ seesB && rulesAll
+          after-a : asksb P Q ≡ seesB && (rulesAll && excusesAll)
           after-a = after-first _ _ _ after-pins (sym is-y ∙ not-false y oky)
 
           pub unseen-b : not z ≡ true → false ≡ asksb P Q
           unseen-b e = fails-first _ _ _ after-a (sym is-z ∙ not-true z e)
 
-          pub asks-rest : not z ≡ false → (w : Bool) → w ≡ rulesAll → w ≡ asksb P Q
-          asks-rest okz w is-w = is-w ∙ sym (after-first _ _ _ after-a (sym is-z ∙ not-false z okz))
+          module _ (okz : not z ≡ false) (w : Bool) (is-w : w ≡ rulesAll) where
+            after-b : asksb P Q ≡ rulesAll && excusesAll
+            after-b = after-first _ _ _ after-a (sym is-z ∙ not-false z okz)
+
+            pub more-rules : not w ≡ true → false ≡ asksb P Q
+            more-rules e = fails-first _ _ _ after-b (sym is-w ∙ not-true w e)
+
+            pub asks-rest : not w ≡ false → (v : Bool) → v ≡ allWithin (take (hq .excuses) (behind hq rq)) (take (hp .excuses) (behind hp rp)) → v ≡ asksb P Q
+            asks-rest okw v is-v = is-v ∙ rw (slice-from rq (hq .rules), slice-from rp (hp .rules)) (sym (after-first _ _ _ after-b (sym is-w ∙ not-false w okw)))

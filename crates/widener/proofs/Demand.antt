@@ -21,10 +21,12 @@ use borrow.Author.Tests.{eqb-true}
 use lib.ListN.{length, getD, take, drop, length-append, length-drop, take-append-drop, List·getD-append}
 use lib.Seq.{getD-append-add, getD-take, getD-drop, length-take-le}
 use Rattle.wires.specs.Wires.{wire, shown, placed}
-use Rattle.wires.specs.Terms.{Holds, Breaks, Fault}
+use Rattle.wires.specs.Terms.{Holds, Fault, Excused, Contains}
 use Rattle.wires.proofs.Rows.{row-below, shown-placed, wider}
+use Rattle.wires.proofs.Sets.{contains-iff}
 use Rattle.steps.specs.declared.Outcome.{Outcome}
 use Rattle.steps.specs.Outcome.{success}
+use Rattle.sheet.specs.declared.Form.{Form}
 use Rattle.sheet.specs.Job.{Job, accepted}
 use Rattle.sheet.specs.JobSheet.{readJob}
 use Rattle.sheet.proofs.Laws.{job-bounds}
@@ -32,23 +34,22 @@ use Rattle.answer.specs.AnswerSheet.{longest}
 use Rattle.answer.specs.Written.{tablesSheet, IsPair}
 use Rattle.board.specs.Board.{Board, Shows, rows, atB}
 use Rattle.board.specs.Tables.{held, Pair, Tables, Fits}
-use Rattle.board.specs.JobBoard.{breaksb, jobBoard}
+use Rattle.board.specs.JobBoard.{faultb, jobBoard}
 use Rattle.board.specs.Check.{checkOutcome}
-use Rattle.board.proofs.Rules.{breaksb-iff}
+use Rattle.board.proofs.Rules.{faultb-iff, excusedb-iff, excused-more}
 use Rattle.board.proofs.Checked.{shows, joined-tables, accepts-tables}
 use Rattle.theory.specs.Widen.{Widened}
 use Rattle.theory.specs.Widen as theory
 use Rattle.theory.proofs.Widen.{widened-pair}
 use Rattle.solver.specs.Solved.{Solved}
 use Rattle.solver.proofs.Demand.{tables-iff, walk-stands}
-use Rattle.widener.specs.Asks.{Contains, AsksNoMore, containsb}
+use Rattle.widener.specs.Asks.{AsksNoMore}
 use Rattle.widener.specs.Table.{narrowRow, tabled, widenTable, widenSheet}
-use Rattle.widener.proofs.Asking.{contains-iff}
 use Rattle.widener.proofs.Tabling.{tabled-length, tabled-at}
 
 -- ---- boards
 
-module _ (p q : List ℕ) (P Q : Job) (isP : readJob p ≡ accepted P) (isQ : readJob q ≡ accepted Q) (less : AsksNoMore P Q) where
+module _ (form : Form) (p q : List ℕ) (P Q : Job) (isP : readJob form p ≡ accepted P) (isQ : readJob form q ≡ accepted Q) (less : AsksNoMore P Q) where
   abbrev n : ℕ
   n = length (Q .pins)
 
@@ -62,7 +63,7 @@ module _ (p q : List ℕ) (P Q : Job) (isP : readJob p ≡ accepted P) (isQ : re
   narrowB = narrowRow n (P .seesB) (Q .seesB)
 
   shows-q : Shows (jobBoard Q)
-  shows-q = shows n (Q .seesA) (Q .seesB) (Q .rules)
+  shows-q = shows n (Q .seesA) (Q .seesB) (Q .rules) (Q .excuses)
 
   -- a combination shows P's cell the row that belongs to the row it shows Q's
   shows-narrow : (few more : ℕ) → more < 2 ^ n → Contains more few → (a : ℕ) → shown (length (P .pins)) few a ≡ narrowRow n few more (shown n more a)
@@ -77,14 +78,15 @@ module _ (p q : List ℕ) (P Q : Job) (isP : readJob p ≡ accepted P) (isQ : re
 
   breaks-more : (a x y : ℕ) → jobBoard Q .breaks a x y ≡ true → jobBoard P .breaks a x y ≡ true
   breaks-more a x y e =
-      let t = breaksb-iff n (Q .rules) a x y .0 e in
-      let k = less .rules (t .0) (t .1) in
-      let broken : Fault n (P .rules) (length (P .rules)) a x y = (k .0, k .1, λ h. t .2 (holds-more n a x y (getD (Q .rules) (t .0) 0) (getD (P .rules) (k .0) 0) (k .2) h)) in
-      subst (λ (m : ℕ). breaksb m (P .rules) a x y ≡ true) (sym same-wires) (breaksb-iff n (P .rules) a x y .1 broken)
+      let t = faultb-iff n (Q .rules) (Q .excuses) a x y .0 e in
+      let k = less .rules (t .0 .0) (t .0 .1) in
+      let broken : Fault n (P .rules) (length (P .rules)) a x y = (k .0, k .1, λ h. t .0 .2 (holds-more n a x y (getD (Q .rules) (t .0 .0) 0) (getD (P .rules) (k .0) 0) (k .2) h)) in
+      let unexcused : Excused n (P .excuses) (length (P .excuses)) a → ⊥ = λ x. t .1 (excusedb-iff n (Q .excuses) a .0 (excused-more n (P .excuses) (Q .excuses) a (less .excuses) (excusedb-iff n (P .excuses) a .1 x))) in
+      subst (λ (m : ℕ). faultb m (P .rules) (P .excuses) a x y ≡ true) (sym same-wires) (faultb-iff n (P .rules) (P .excuses) a x y .1 (broken, unexcused))
 
   pub asks-board : theory.AsksNoMore (jobBoard P) (jobBoard Q) narrowA narrowB
   asks-board =
-      let b = job-bounds q Q isQ in record {
+      let b = job-bounds form q Q isQ in record {
         combinations = ap (λ (k : ℕ). 2 ^ k) same-wires;
         inA = λ r h. row-below n (P .seesA) (placed n (Q .seesA) r);
         inB = λ r h. row-below n (P .seesB) (placed n (Q .seesB) r);
@@ -148,8 +150,8 @@ module _ (p q : List ℕ) (P Q : Job) (isP : readJob p ≡ accepted P) (isQ : re
         (record { tables = joined-tables (jobBoard P) xs ys pair; fits = f }) wide-rows
 
     -- the checker accepts the widened sheet for Q
-    pub wide-checked : Fits (jobBoard P) (xs ++ ys) → checkOutcome q (widenSheet P Q xs ys) ≡ success 20 0
-    wide-checked f = accepts-tables q Q wideA wideB isQ wide-is-pair (wide-pair f .fits)
+    pub wide-checked : Fits (jobBoard P) (xs ++ ys) → checkOutcome form q (widenSheet P Q xs ys) ≡ success 20 0
+    wide-checked f = accepts-tables form q Q wideA wideB isQ wide-is-pair (wide-pair f .fits)
 
   -- ---- what a solver says of the two jobs
 
@@ -170,11 +172,11 @@ module _ (p q : List ℕ) (P Q : Job) (isP : readJob p ≡ accepted P) (isQ : re
       (_, wide-pair xs ys (cut-pair T (p .tables)) whole)
 
   module _ (entryP entryQ : List ℕ) (oP oQ : Outcome) (exitP exitQ : List ℕ) (roomP : longest ≤ length entryP) (roomQ : longest ≤ length entryQ)
-      (solvedP : Solved p entryP oP exitP) (solvedQ : Solved q entryQ oQ exitQ) where
+      (solvedP : Solved form p entryP oP exitP) (solvedQ : Solved form q entryQ oQ exitQ) where
     pub tables-carry : oP .code ≡ 20 → oQ .code ≡ 20
     tables-carry e =
-        let t = tables-iff p entryP oP exitP P isP roomP solvedP .0 e in
-        tables-iff q entryQ oQ exitQ Q isQ roomQ solvedQ .1 (pair-carries (t .0) (t .1))
+        let t = tables-iff form p entryP oP exitP P isP roomP solvedP .0 e in
+        tables-iff form q entryQ oQ exitQ Q isQ roomQ solvedQ .1 (pair-carries (t .0) (t .1))
 
     pub walk-carries : oQ .code ≡ 21 → oP .code ≡ 21
-    walk-carries e = walk-stands p entryP oP exitP P isP roomP solvedP (λ c. omega (arith, tables-carry c)) .code
+    walk-carries e = walk-stands form p entryP oP exitP P isP roomP solvedP (λ c. omega (arith, tables-carry c)) .code

@@ -1,6 +1,6 @@
 -- How a widener call ends, each way from plain facts.
 --     taken-as                              from what the reader of jobs told and stored
---     refused-first, refused-second         a job sheet is refused
+--     refused-first, taken-first, refused-second, taken-second      a job sheet is refused, or taken
 --     ends-walk, ends-checked               the answer is a walk that stands, or is refused by the checker
 --     wide-asks                             what `write_wide` asks is there
 --     ends-asks, ends-room, ends-written    tables that fit: Q asks more, no room, and the widened sheet
@@ -13,7 +13,7 @@ use native.Mathlib.Omega.{arith}
 use borrow.Author.Tests.{lt-ltb, le-ltb, eq-eqb, ne-eqb}
 use lib.Count.{ones}
 use lib.Dec.{ltb, eqb}
-use lib.ListN.{length, drop}
+use lib.ListN.{length, take, drop}
 use Rattle.wires.specs.Wires.{placed}
 use Rattle.wires.proofs.Rows.{row-below}
 use Rattle.steps.specs.declared.Outcome.{Outcome}
@@ -21,6 +21,7 @@ use Rattle.steps.specs.declared.Refusal.{Refusal}
 use Rattle.steps.specs.declared.Refusal.the-variants.{Ends, TooMany, NotRising, TooHigh, LeftOver, OtherKind, NotABit, OutOfRange}
 use Rattle.steps.specs.Step.{pick}
 use Rattle.steps.specs.Outcome.{success, refusal, refusedJob, answerCodeOf}
+use Rattle.sheet.specs.declared.Form.{Form}
 use Rattle.sheet.specs.declared.JobHead.{JobHead}
 use Rattle.sheet.specs.Job.{Job, accepted, rejected}
 use Rattle.sheet.specs.JobSheet.{readJob}
@@ -40,39 +41,34 @@ use Rattle.board.proofs.Judging.{tables-in}
 use Rattle.widener.specs.Asks.{samePins, asksb}
 use Rattle.widener.specs.Table.{narrowRow, widenTable, widenSheet}
 use Rattle.sheet.specs.JobFound.{jobHead}
-use Rattle.widener.specs.Taking.{TakenAs, IsTaken, Wide, Widely, sheetFrom, Ended}
-use Rattle.widener.specs.Widened.{Ending, refusing, fitting, judged, withBoth, widened}
+use Rattle.widener.specs.Taking.{TakenAs, Wide, Widely, sheetFrom, Ended}
+use Rattle.widener.specs.Widened.{Ending, refusing, fitting, judged, withBoth, withP, widened}
 use Rattle.widener.proofs.Tabling.{tabled-same}
 
 -- ---- jobs
 
-pub taken-as : {s : List ℕ} {h : JobHead} {rules : List ℕ} → Taken s h rules → IsTaken s h rules
-taken-as t = (t .job, record { is = t .is; head = t .head; sized = t .sized; rules-are = t .rules-are })
+pub taken-as : {f : Form} {s : List ℕ} {h : JobHead} {masks : List ℕ} (t : Taken f s h masks) → TakenAs s h masks (t .job)
+taken-as {f} t = record { form = f; is = t .is; head = t .head; sized = t .sized; rules-are = t .rules-are; excuses-are = t .excuses-are }
 
-ended-as : {e : Ending} {o : Outcome} {exit : List ℕ} (p q s entry : List ℕ) → widened p q s entry ≡ e → o ≡ e .outcome → exit ≡ e .exit
-    → Ended (widened p q s entry) o exit
-ended-as p q s entry e eo ex = record { outcome = eo ∙ ap (λ (x : Ending). x .outcome) (sym e); exit-is = ex ∙ ap (λ (x : Ending). x .exit) (sym e) }
+-- a call that ends as it should where e is how it should
+ended-as : {d e : Ending} {o : Outcome} {exit : List ℕ} → d ≡ e → o ≡ e .outcome → exit ≡ e .exit → Ended d o exit
+ended-as e eo ex = record { outcome = eo ∙ ap (λ (x : Ending). x .outcome) (sym e); exit-is = ex ∙ ap (λ (x : Ending). x .exit) (sym e) }
 
-first-is : (p q s entry : List ℕ) (w : Refusal) → readJob p ≡ rejected w → widened p q s entry ≡ refusing (refusedJob 1 w) entry
-unfolding widened
-first-is p q s entry w e = rw e
+module _ (f : Form) (p q s entry : List ℕ) where
+  pub refused-first : (w : Refusal) {o : Outcome} → readJob f p ≡ rejected w → o ≡ refusedJob 1 w → Ended (widened f p q s entry) o entry
+  unfolding widened
+  refused-first w e eo = rw e (ended-as refl eo refl)
 
-second-is : (p q s entry : List ℕ) (P : Job) (w : Refusal) → readJob p ≡ accepted P → readJob q ≡ rejected w
-    → widened p q s entry ≡ refusing (refusedJob 3 w) entry
-unfolding widened
-second-is p q s entry P w e f = rw (e, f)
+  pub taken-first : (P : Job) {o : Outcome} {exit : List ℕ} → readJob f p ≡ accepted P → Ended (withP P (readJob f q) s entry) o exit → Ended (widened f p q s entry) o exit
+  unfolding widened
+  taken-first P e x = rw e x
 
-both-is : (p q s entry : List ℕ) (P Q : Job) → readJob p ≡ accepted P → readJob q ≡ accepted Q → widened p q s entry ≡ withBoth P Q s entry
-unfolding widened
-both-is p q s entry P Q e f = rw (e, f)
+module _ (P : Job) (f : Form) (q s entry : List ℕ) where
+  pub refused-second : (w : Refusal) {o : Outcome} → readJob f q ≡ rejected w → o ≡ refusedJob 3 w → Ended (withP P (readJob f q) s entry) o entry
+  refused-second w e eo = rw e (ended-as refl eo refl)
 
-pub refused-first : (p q s entry : List ℕ) (w : Refusal) {o : Outcome} → readJob p ≡ rejected w → o ≡ refusedJob 1 w
-    → Ended (widened p q s entry) o entry
-refused-first p q s entry w e eo = ended-as p q s entry (first-is p q s entry w e) eo refl
-
-pub refused-second : (p q s entry : List ℕ) (hp : JobHead) (rules : List ℕ) (w : Refusal) {o : Outcome} → IsTaken p hp rules → readJob q ≡ rejected w
-    → o ≡ refusedJob 3 w → Ended (widened p q s entry) o entry
-refused-second p q s entry hp rules w t e eo = ended-as p q s entry (second-is p q s entry (t .0) w (t .1 .is) e) eo refl
+  pub taken-second : (Q : Job) {o : Outcome} {exit : List ℕ} → readJob f q ≡ accepted Q → Ended (withBoth P Q s entry) o exit → Ended (withP P (readJob f q) s entry) o exit
+  taken-second Q e x = rw e x
 
 -- ---- the checker's codes
 
@@ -160,10 +156,9 @@ module _ (p q s l : List ℕ) (hp hq : JobHead) (rp rq : List ℕ) (P Q : Job) (
   verdict = readAnswer (jobBoard P .rowsA) (jobBoard P .rowsB) (jobBoard P .combinations) s
 
   board-is : headBoard hp rp ≡ jobBoard P
-  board-is = ap₂ (λ (h : JobHead) (rules : List ℕ). boardOf (h .wires) (h .«sees_a») (h .«sees_b») rules) (tp .head) (tp .rules-are)
-
-  is : widened p q s l ≡ judged P Q verdict l
-  is = both-is p q s l P Q (tp .is) (tq .is)
+  board-is =
+      ap (λ (h : JobHead). boardOf (h .wires) (h .«sees_a») (h .«sees_b») (take (hp .rules) rp) (take (hp .excuses) (drop (hp .rules) rp))) (tp .head)
+      ∙ ap₂ (boardOf (length (P .pins)) (P .seesA) (P .seesB)) (tp .rules-are) (tp .excuses-are)
 
   -- o is what the checker told
   module _ {o : Outcome} (told : o ≡ judgeSheet (headBoard hp rp) s) where
@@ -174,11 +169,11 @@ module _ (p q s l : List ℕ) (hp hq : JobHead) (rp rq : List ℕ) (P Q : Job) (
     code-is : o .code ≡ judge (jobBoard P) verdict .code
     code-is = ap (λ (x : Outcome). x .code) told-is
 
-    pub ends-walk : {r : Outcome} → o .code ≡ 21 → r ≡ refusal 15 2 0 → Ended (widened p q s l) r l
-    ends-walk c e = ended-as p q s l (is ∙ judged-walk P Q l verdict (sym code-is ∙ c)) e refl
+    pub ends-walk : {r : Outcome} → o .code ≡ 21 → r ≡ refusal 15 2 0 → Ended (withBoth P Q s l) r l
+    ends-walk c e = ended-as (judged-walk P Q l verdict (sym code-is ∙ c)) e refl
 
-    pub ends-checked : (o .code ≡ 21 → ⊥) → (o .code ≡ 20 → ⊥) → Ended (widened p q s l) o l
-    ends-checked c d = ended-as p q s l (is ∙ judged-refused P Q l verdict (λ z. c (code-is ∙ z)) (λ z. d (code-is ∙ z))) told-is refl
+    pub ends-checked : (o .code ≡ 21 → ⊥) → (o .code ≡ 20 → ⊥) → Ended (withBoth P Q s l) o l
+    ends-checked c d = ended-as (judged-refused P Q l verdict (λ z. c (code-is ∙ z)) (λ z. d (code-is ∙ z))) told-is refl
 
     module _ (fits : o .code ≡ 20) where
       found : (xs : List ℕ) × (ys : List ℕ) × (verdict ≡ answered (tables xs ys)) × (judged P Q verdict l ≡ fitting P Q xs ys l)
@@ -199,11 +194,11 @@ module _ (p q s l : List ℕ) (hp hq : JobHead) (rp rq : List ℕ) (P Q : Job) (
         room = room;
       }
 
-      pub ends-asks : {r : Outcome} → asksb P Q ≡ false → r ≡ refusal 14 3 0 → Ended (widened p q s l) r l
-      ends-asks asks e = ended-as p q s l (is ∙ found .3 ∙ rw asks) e refl
+      pub ends-asks : {r : Outcome} → asksb P Q ≡ false → r ≡ refusal 14 3 0 → Ended (withBoth P Q s l) r l
+      ends-asks asks e = ended-as (found .3 ∙ rw asks) e refl
 
-      pub ends-room : {r : Outcome} → asksb P Q ≡ true → length l < longest → r ≡ refusal 6 0 0 → Ended (widened p q s l) r l
-      ends-room asks short e = ended-as p q s l (is ∙ found .3 ∙ rw (asks, lt-ltb (length l) longest short)) e refl
+      pub ends-room : {r : Outcome} → asksb P Q ≡ true → length l < longest → r ≡ refusal 6 0 0 → Ended (withBoth P Q s l) r l
+      ends-room asks short e = ended-as (found .3 ∙ rw (asks, lt-ltb (length l) longest short)) e refl
 
       -- m bytes were written
       module _ {m : ℕ} {exit : List ℕ} (no-more : asksb P Q ≡ true) (wide : Widely hp hq s l exit m) where
@@ -234,6 +229,6 @@ module _ (p q s l : List ℕ) (hp hq : JobHead) (rp rq : List ℕ) (P Q : Job) (
             (rw wires-q at (tq .sized .maskB))
             ∙ ap₂ (λ (xs : List ℕ) (k : ℕ). xs ++ drop k l) sheet-is length-is
 
-        pub ends-written : {r : Outcome} → longest ≤ length l → r ≡ success 20 m → Ended (widened p q s l) r exit
+        pub ends-written : {r : Outcome} → longest ≤ length l → r ≡ success 20 m → Ended (withBoth P Q s l) r exit
         ends-written room e =
-            ended-as p q s l (is ∙ found .3 ∙ rw (no-more, le-ltb (length l) longest room)) (e ∙ ap (success 20) length-is) exit-is
+            ended-as (found .3 ∙ rw (no-more, le-ltb (length l) longest room)) (e ∙ ap (success 20) length-is) exit-is

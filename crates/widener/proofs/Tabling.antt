@@ -17,7 +17,7 @@ use lib.Pow.{pow-mono}
 use lib.Seq.{sets}
 use Rattle.wires.specs.Wires.{shown, placed}
 use Rattle.answer.specs.Written.{two, table}
-use Rattle.answer.proofs.Runs.{joined}
+use Rattle.steps.proofs.Runs.{joined}
 use Rattle.widener.specs.Table.{tabled, narrowRow}
 
 pub tabled-length : (f : ℕ → ℕ) (i k : ℕ) → length (tabled f i k) ≡ k

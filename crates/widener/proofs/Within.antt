@@ -1,30 +1,20 @@
 -- The tests of specs/Asks, entry by entry from the place i of a list on.
 --     pinsFrom, pins-turn, pins-differ, pins-end     the pins of two sheets
---     some-turn, some-found, some-end                the rules that a rule may contain
---     all-turn, all-missed, all-end                  the rules that are to contain one
+--     all-turn, all-missed, all-end                  the sets that are to contain one
 --     pins-length                                    lists of pins that are equal have one length
 -- Assumes nothing.
 use mathlib.Core.Path.{_≡_, refl, ap, _∙_}
-use mathlib.Core.Bool.{true, false, _&&_, _||_, false≢true, and-eq-true-iff}
+use mathlib.Core.Bool.{true, false, _&&_, false≢true, and-eq-true-iff}
 use mathlib.Core.List.{List, [], _∷_}
 use Prim.Native.Nat.{ℕ, suc, _+_, _<_, _≤_}
-use native.Mathlib.Numerals.{add-one}
 use native.Mathlib.Omega.{arith}
 use lib.Dec.{eqb}
-use lib.ListN.{length, getD, take, drop, length-drop, drop-of-length-le}
-use lib.Seq.{drop-cons, getD-take, getD-drop, length-take-le}
+use lib.ListN.{length, getD, take, drop, length-drop}
+use lib.Seq.{getD-drop}
 use borrow.Author.Tests.{eq-eqb, ne-eqb}
-use Rattle.widener.specs.Asks.{containsb, samePins, someWithin, allWithin}
-
--- the entries from place i on, of the first count
-from-here : (s : List ℕ) (count i : ℕ) → count ≤ length s → i < count → drop i (take count s) ≡ getD s i 0 ∷ drop (i + 1) (take count s)
-from-here s count i long l = rw (drop-cons (take count s) i 0 fewer, getD-take count s i 0 l, add-one)
-  where
-    fewer : i < length (take count s)
-    fewer = rw (length-take-le count s long) l
-
-none-left : (s : List ℕ) (count : ℕ) → count ≤ length s → drop count (take count s) ≡ []
-none-left s count long = drop-of-length-le (take count s) {i = count} (omega (arith, length-take-le count s long))
+use Rattle.wires.specs.Terms.{someWithin}
+use Rattle.wires.proofs.Sets.{from-here, none-left}
+use Rattle.widener.specs.Asks.{samePins, allWithin}
 
 -- ---- pins, which stand in a sheet from place 1 on
 
@@ -60,34 +50,19 @@ pins-length [] (y ∷ ys) e = absurd (false≢true e)
 pins-length (x ∷ xs) [] e = absurd (false≢true e)
 pins-length (x ∷ xs) (y ∷ ys) e = ap suc (pins-length xs ys (and-eq-true-iff (eqb x y) (samePins xs ys) .0 e .1))
 
--- ---- rules
+-- ---- sets
 
-module _ (r : ℕ) (rules : List ℕ) (count i : ℕ) (long : count ≤ length rules) (l : i < count) where
-  some-here : someWithin (drop i (take count rules)) r ≡ containsb r (getD rules i 0) || someWithin (drop (i + 1) (take count rules)) r
-  unfolding someWithin
-  some-here = ap (λ (rs : List ℕ). someWithin rs r) (from-here rules count i long l)
-
-  pub some-turn : containsb r (getD rules i 0) ≡ false → someWithin (drop i (take count rules)) r ≡ someWithin (drop (i + 1) (take count rules)) r
-  some-turn e = some-here ∙ rw e
-
-  pub some-found : containsb r (getD rules i 0) ≡ true → someWithin (drop i (take count rules)) r ≡ true
-  some-found e = some-here ∙ rw e
-
-pub some-end : (r : ℕ) (rules : List ℕ) (count : ℕ) → count ≤ length rules → someWithin (drop count (take count rules)) r ≡ false
-unfolding someWithin
-some-end r rules count long = rw (none-left rules count long)
-
-module _ (ps rules : List ℕ) (count i : ℕ) (long : count ≤ length rules) (l : i < count) where
-  all-here : allWithin ps (drop i (take count rules)) ≡ someWithin ps (getD rules i 0) && allWithin ps (drop (i + 1) (take count rules))
+module _ (ps sets : List ℕ) (count i : ℕ) (long : count ≤ length sets) (l : i < count) where
+  all-here : allWithin ps (drop i (take count sets)) ≡ someWithin ps (getD sets i 0) && allWithin ps (drop (i + 1) (take count sets))
   unfolding allWithin
-  all-here = ap (allWithin ps) (from-here rules count i long l)
+  all-here = ap (allWithin ps) (from-here sets count i long l)
 
-  pub all-turn : someWithin ps (getD rules i 0) ≡ true → allWithin ps (drop i (take count rules)) ≡ allWithin ps (drop (i + 1) (take count rules))
+  pub all-turn : someWithin ps (getD sets i 0) ≡ true → allWithin ps (drop i (take count sets)) ≡ allWithin ps (drop (i + 1) (take count sets))
   all-turn e = all-here ∙ rw e
 
-  pub all-missed : someWithin ps (getD rules i 0) ≡ false → allWithin ps (drop i (take count rules)) ≡ false
+  pub all-missed : someWithin ps (getD sets i 0) ≡ false → allWithin ps (drop i (take count sets)) ≡ false
   all-missed e = all-here ∙ rw e
 
-pub all-end : (ps rules : List ℕ) (count : ℕ) → count ≤ length rules → allWithin ps (drop count (take count rules)) ≡ true
+pub all-end : (ps sets : List ℕ) (count : ℕ) → count ≤ length sets → allWithin ps (drop count (take count sets)) ≡ true
 unfolding allWithin
-all-end ps rules count long = rw (none-left rules count long)
+all-end ps sets count long = rw (none-left sets count long)

@@ -11,7 +11,7 @@ use lib.ListN.{length, drop, length-append}
 use lib.Seq.{sets}
 use Rattle.sheet.specs.declared.JobHead.{JobHead}
 use Rattle.answer.specs.Written.{two, table, tablesSheet}
-use Rattle.answer.proofs.Runs.{joined}
+use Rattle.steps.proofs.Runs.{joined}
 use Rattle.answer.proofs.Sheets.{tables-length}
 use Rattle.solver.proofs.Writing.{wrote}
 use Rattle.widener.specs.Taking.{Widens, Wide, Widely, rowsFrom, sheetFrom}

@@ -1,4 +1,4 @@
--- How a widener call ends, for every four byte lists (document 01, "Outcome numbers").
+-- How a widener call ends, for either form and every four byte lists (document 01, "Outcome numbers").
 --     Ending        an outcome, and what the lent buffer holds
 --     widened       the ending
 -- Widener: P's 1–5, Q's, then the checker's refusals, 15, 14, 6. Assumes nothing: these are definitions.
@@ -10,6 +10,7 @@ use lib.ListN.{length, drop}
 use Rattle.steps.specs.declared.Outcome.{Outcome}
 use Rattle.steps.specs.Step.{pick}
 use Rattle.steps.specs.Outcome.{success, refusal, refusedJob, refusedAnswer}
+use Rattle.sheet.specs.declared.Form.{Form}
 use Rattle.sheet.specs.Job.{Job, Verdict, accepted, rejected}
 use Rattle.sheet.specs.JobSheet.{readJob}
 use Rattle.answer.specs.Answer.{Answer, tables, walk, AnswerVerdict, answered}
@@ -54,9 +55,10 @@ abbrev pub withP : (P : Job) → Verdict → (s entry : List ℕ) → Ending
 withP P (accepted Q) s entry = withBoth P Q s entry
 withP P (rejected w) s entry = refusing (refusedJob 3 w) entry
 
-abbrev pub withNone : Verdict → (q s entry : List ℕ) → Ending
-withNone (accepted P) q s entry = withP P (readJob q) s entry
-withNone (rejected w) q s entry = refusing (refusedJob 1 w) entry
+abbrev pub withNone : Form → Verdict → (q s entry : List ℕ) → Ending
+withNone f (accepted P) q s entry = withP P (readJob f q) s entry
+withNone f (rejected w) q s entry = refusing (refusedJob 1 w) entry
 
-unfoldable pub widened : (p q s entry : List ℕ) → Ending
-widened p q s entry = withNone (readJob p) q s entry
+-- both jobs in the form named
+unfoldable pub widened : Form → (p q s entry : List ℕ) → Ending
+widened f p q s entry = withNone f (readJob f p) q s entry

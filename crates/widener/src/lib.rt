@@ -2,36 +2,33 @@
 // ends, for every four strings of bytes, stands in specs/Widened. Leans on the checker for the answer against P.
 use answer::LONGEST;
 use answer::write_two;
+use sheet::Form;
 use sheet::JobHead;
 use sheet::JobRead;
-use sheet::RULES;
+use sheet::MASKS;
 use steps::Outcome;
 use steps::refused;
 use steps::refused_job;
 use steps::succeeded;
+use wires::contains;
 use wires::row_count;
 use wires::row_placed;
 use wires::row_shown;
+use wires::some_within;
 ghost use mathlib.Core.Path.{_≡_};
 ghost use Prim.Native.Nat.{ℕ, _+_, _^_, _<_, _≤_};
 ghost use lib.Count.{ones};
 ghost use lib.ListN.{length, getD, take, drop};
 ghost use lib.Seq.{sets};
 ghost use Rattle.sheet.specs.Job.{Job};
+ghost use Rattle.sheet.specs.JobSheet.{readJob};
 ghost use Rattle.answer.specs.AnswerSheet.{longest};
 ghost use Rattle.answer.specs.Written.{table};
 ghost use Rattle.board.specs.JobBoard.{Sized};
-ghost use Rattle.widener.specs.Asks.{containsb, samePins, someWithin, allWithin, asksb};
+ghost use Rattle.widener.specs.Asks.{samePins, allWithin, asksb};
 ghost use Rattle.widener.specs.Table.{tabled, narrowRow};
 ghost use Rattle.widener.specs.Taking.{TakenAs, IsTaken, Widens, Wide, Widely, Ended};
-ghost use Rattle.widener.specs.Widened.{widened};
-
-// Does the set `r` contain all of the set `s`?
-fn contains(r: u32, s: u32) -> bool
-    ensures { λ b. ⌜ b ≡ containsb r s ⌝ }
-{
-    s & r == s
-}
+ghost use Rattle.widener.specs.Widened.{withBoth, withP, widened};
 
 // Are the `n` pins of two job sheets equal, byte by byte? They stand from place 1 on.
 fn same_pins(p: &[u8], q: &[u8], n: usize) -> bool
@@ -48,29 +45,14 @@ fn same_pins(p: &[u8], q: &[u8], n: usize) -> bool
     true
 }
 
-// Does the rule `r` contain one of the first `count` rules?
-fn some_within(rules: &[u32], count: usize, r: u32) -> bool
-    requires { ⌜ count ≤ length (now rules) ⌝ }
-    ensures { λ b. ⌜ b ≡ someWithin (take count (now (rules .entry))) r ⌝ }
+// Does each of the first `many` sets of `wide` contain all of one of the first `count` sets of `narrow`?
+fn all_within(narrow: &[u32], count: usize, wide: &[u32], many: usize) -> bool
+    requires { ⌜ (count ≤ length (now narrow)) × (many ≤ length (now wide)) ⌝ }
+    ensures { λ b. ⌜ b ≡ allWithin (take count (now (narrow .entry))) (take many (now (wide .entry))) ⌝ }
 {
     let mut i: usize = 0;
-    while i < count {
-        if contains(r, rules[i]) {
-            return true;
-        }
-        i += 1;
-    }
-    false
-}
-
-// Does each of the first `count_q` rules of `rules_q` contain one of the first `count_p` rules of `rules_p`?
-fn all_within(rules_p: &[u32], count_p: usize, rules_q: &[u32], count_q: usize) -> bool
-    requires { ⌜ («count_p» ≤ length (now «rules_p»)) × («count_q» ≤ length (now «rules_q»)) ⌝ }
-    ensures { λ b. ⌜ b ≡ allWithin (take «count_p» (now («rules_p» .entry))) (take «count_q» (now («rules_q» .entry))) ⌝ }
-{
-    let mut i: usize = 0;
-    while i < count_q {
-        if !some_within(rules_p, count_p, rules_q[i]) {
+    while i < many {
+        if !some_within(narrow, count, wide[i]) {
             return false;
         }
         i += 1;
@@ -82,14 +64,14 @@ fn all_within(rules_p: &[u32], count_p: usize, rules_q: &[u32], count_q: usize) 
 pub fn asks_no_more(
     p: &[u8],
     hp: JobHead,
-    rules_p: &[u32],
+    masks_p: &[u32],
     q: &[u8],
     hq: JobHead,
-    rules_q: &[u32],
+    masks_q: &[u32],
 ) -> bool
-    requires { ⌜ IsTaken (now p) hp (now «rules_p») ⌝ }
-    requires { ⌜ IsTaken (now q) hq (now «rules_q») ⌝ }
-    ensures { λ b. ⌜ ((P Q : Job) → TakenAs (now (p .entry)) hp (now («rules_p» .entry)) P → TakenAs (now (q .entry)) hq (now («rules_q» .entry)) Q → b ≡ asksb P Q) ⌝ }
+    requires { ⌜ IsTaken (now p) hp (now «masks_p») ⌝ }
+    requires { ⌜ IsTaken (now q) hq (now «masks_q») ⌝ }
+    ensures { λ b. ⌜ ((P Q : Job) → TakenAs (now (p .entry)) hp (now («masks_p» .entry)) P → TakenAs (now (q .entry)) hq (now («masks_q» .entry)) Q → b ≡ asksb P Q) ⌝ }
 {
     if hp.wires != hq.wires {
         return false;
@@ -103,7 +85,19 @@ pub fn asks_no_more(
     if !contains(hq.sees_b, hp.sees_b) {
         return false;
     }
-    all_within(rules_p, hp.rules as usize, rules_q, hq.rules as usize)
+    let rules_p = hp.rules as usize;
+    let rules_q = hq.rules as usize;
+    if !all_within(masks_p, rules_p, masks_q, rules_q) {
+        return false;
+    }
+    let excuses_p = &masks_p[rules_p..];
+    let excuses_q = &masks_q[rules_q..];
+    all_within(
+        excuses_q,
+        hq.excuses as usize,
+        excuses_p,
+        hp.excuses as usize,
+    )
 }
 
 // Writes the table of a cell that sees the wires of `more`, from that of a cell that sees those of `few`, whose rows stand in
@@ -139,25 +133,25 @@ fn write_wide(hp: JobHead, hq: JobHead, sheet: &[u8], out: &mut [u8]) -> usize
 fn widen_both(
     p: &[u8],
     hp: JobHead,
-    rules_p: &[u32],
+    masks_p: &[u32],
     q: &[u8],
     hq: JobHead,
-    rules_q: &[u32],
+    masks_q: &[u32],
     sheet: &[u8],
     out: &mut [u8],
 ) -> Outcome
-    requires { ⌜ IsTaken (now p) hp (now «rules_p») ⌝ }
-    requires { ⌜ IsTaken (now q) hq (now «rules_q») ⌝ }
-    ensures { λ r. ⌜ Ended (widened (now (p .entry)) (now (q .entry)) (now (sheet .entry)) (now (out .entry))) r (now (out .exit)) ⌝ }
+    requires { ⌜ IsTaken (now p) hp (now «masks_p») ⌝ }
+    requires { ⌜ IsTaken (now q) hq (now «masks_q») ⌝ }
+    ensures { λ r. ⌜ ((P Q : Job) → TakenAs (now (p .entry)) hp (now («masks_p» .entry)) P → TakenAs (now (q .entry)) hq (now («masks_q» .entry)) Q → Ended (withBoth P Q (now (sheet .entry)) (now (out .entry))) r (now (out .exit))) ⌝ }
 {
-    let checked = board::check::check_answer(hp, rules_p, sheet);
+    let checked = board::check::check_answer(hp, masks_p, sheet);
     if checked.code == 21 {
         return refused(15, 2, 0);
     }
     if checked.code != 20 {
         return checked;
     }
-    if !asks_no_more(p, hp, rules_p, q, hq, rules_q) {
+    if !asks_no_more(p, hp, masks_p, q, hq, masks_q) {
         return refused(14, 3, 0);
     }
     if out.len() < LONGEST {
@@ -169,32 +163,33 @@ fn widen_both(
 
 // P was accepted.
 fn widen_from(
+    form: Form,
     p: &[u8],
     hp: JobHead,
-    rules_p: &[u32],
+    masks_p: &[u32],
     q: &[u8],
     sheet: &[u8],
     out: &mut [u8],
 ) -> Outcome
-    requires { ⌜ IsTaken (now p) hp (now «rules_p») ⌝ }
-    ensures { λ r. ⌜ Ended (widened (now (p .entry)) (now (q .entry)) (now (sheet .entry)) (now (out .entry))) r (now (out .exit)) ⌝ }
+    requires { ⌜ IsTaken (now p) hp (now «masks_p») ⌝ }
+    ensures { λ r. ⌜ ((P : Job) → TakenAs (now (p .entry)) hp (now («masks_p» .entry)) P → Ended (withP P (readJob form (now (q .entry))) (now (sheet .entry)) (now (out .entry))) r (now (out .exit))) ⌝ }
 {
-    let mut rules_q = [0u32; RULES];
-    let read = sheet::read_job(q, &mut rules_q);
+    let mut masks_q = [0u32; MASKS];
+    let read = sheet::read_job(form, q, &mut masks_q);
     match read {
-        JobRead::Accepted(hq) => widen_both(p, hp, rules_p, q, hq, &rules_q, sheet, out),
+        JobRead::Accepted(hq) => widen_both(p, hp, masks_p, q, hq, &masks_q, sheet, out),
         JobRead::Refused(w) => refused_job(3, w),
     }
 }
 
-// The widener: for every two job sheets, every answer sheet and every lent buffer.
-pub fn widen(p: &[u8], q: &[u8], sheet: &[u8], out: &mut [u8]) -> Outcome
-    ensures { λ r. ⌜ Ended (widened (now (p .entry)) (now (q .entry)) (now (sheet .entry)) (now (out .entry))) r (now (out .exit)) ⌝ }
+// The widener: for either form, every two job sheets, every answer sheet and every lent buffer.
+pub fn widen(form: Form, p: &[u8], q: &[u8], sheet: &[u8], out: &mut [u8]) -> Outcome
+    ensures { λ r. ⌜ Ended (widened form (now (p .entry)) (now (q .entry)) (now (sheet .entry)) (now (out .entry))) r (now (out .exit)) ⌝ }
 {
-    let mut rules_p = [0u32; RULES];
-    let read = sheet::read_job(p, &mut rules_p);
+    let mut masks_p = [0u32; MASKS];
+    let read = sheet::read_job(form, p, &mut masks_p);
     match read {
-        JobRead::Accepted(hp) => widen_from(p, hp, &rules_p, q, sheet, out),
+        JobRead::Accepted(hp) => widen_from(form, p, hp, &masks_p, q, sheet, out),
         JobRead::Refused(w) => refused_job(1, w),
     }
 }

@@ -2,4 +2,5 @@ pub mod Digits
 pub mod Rows
 pub mod Lowest
 pub mod Terms
+pub mod Sets
 pub mod Cases

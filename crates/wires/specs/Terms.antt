@@ -6,12 +6,17 @@
 --     Fault     some rule is broken
 --     Truths    a mask is the set of the true terms
 --     Meets     a rule has a term in a set
+--     Excuses   all terms of an excuse are true (document 02, request 2)
+--     Excused   some excuse's are
+--     Contains, containsb     a set contains all of another, and the same as a test that computes
+--     someWithin              it contains all of some set of a list
 -- Assumes nothing.
 use mathlib.Core.Path.{_≡_}
-use mathlib.Core.Bool.{Bool, true, false}
+use mathlib.Core.Bool.{Bool, true, false, _||_}
 use mathlib.Core.Logic.{_⊎_, _↔_}
 use Prim.Native.Nat.{ℕ, _+_, _*_, _/_, _%_, _^_, _<_, _≤_}
-use mathlib.Core.List.{List}
+use mathlib.Core.List.{List, [], _∷_}
+use lib.Bits.{bitAnd}
 use lib.Dec.{ltb, eqb}
 use lib.ListN.{getD}
 use Rattle.wires.specs.Wires.{wire}
@@ -55,3 +60,23 @@ pub record Truths (n a x y r : ℕ) : Type 0 where
 -- some term of the rule is in the set
 abbrev pub Meets : ℕ → ℕ → Type 0
 Meets rule set = (t : ℕ) × (wire rule t ≡ 1) × (wire set t ≡ 1)
+
+-- all terms of the excuse are true at the combination a. They are terms of wires, below 2n, so the cells' values don't matter
+abbrev pub Excuses : ℕ → ℕ → ℕ → Type 0
+Excuses n a excuse = (t : ℕ) → t < 2 * n → wire excuse t ≡ 1 → IsTrue n a 0 0 t
+
+-- one of the first `count` excuses does so
+abbrev pub Excused : ℕ → List ℕ → ℕ → ℕ → Type 0
+Excused n excuses count a = (i : ℕ) × (i < count) × Excuses n a (getD excuses i 0)
+
+-- the set r contains all of the set s
+abbrev pub Contains : ℕ → ℕ → Type 0
+Contains r s = (t : ℕ) → wire s t ≡ 1 → wire r t ≡ 1
+
+abbrev pub containsb : ℕ → ℕ → Bool
+containsb r s = eqb (bitAnd s r) s
+
+-- some set of the list is contained in r
+unfoldable pub someWithin : List ℕ → ℕ → Bool
+someWithin [] r = false
+someWithin (s ∷ ss) r = containsb r s || someWithin ss r

@@ -4,10 +4,11 @@
 ghost use mathlib.Core.Path.{_≡_};
 ghost use mathlib.Core.Bool.{true};
 ghost use mathlib.Core.Logic.{_↔_};
-ghost use Prim.Native.Nat.{ℕ, _-_, _^_, _<_};
+ghost use Prim.Native.Nat.{ℕ, _-_, _^_, _<_, _≤_};
 ghost use lib.Count.{ones};
+ghost use lib.ListN.{length, take};
 ghost use Rattle.wires.specs.Wires.{shown, placed};
-ghost use Rattle.wires.specs.Terms.{Setting, Truths, Meets};
+ghost use Rattle.wires.specs.Terms.{Setting, Truths, Meets, containsb, someWithin};
 
 // Claim 2r says that row r holds 0, claim 2r + 1 that it holds 1; rows of A come first, then rows of B.
 pub struct Claim(pub u16);
@@ -88,4 +89,26 @@ pub fn rule_holds(rule: u32, truths: u32) -> bool
         return false;
     }
     true
+}
+
+// Does the set `r` contain all of the set `s`?
+pub fn contains(r: u32, s: u32) -> bool
+    ensures { λ b. ⌜ b ≡ containsb r s ⌝ }
+{
+    s & r == s
+}
+
+// Does the set `r` contain all of one of the first `count` sets?
+pub fn some_within(sets: &[u32], count: usize, r: u32) -> bool
+    requires { ⌜ count ≤ length (now sets) ⌝ }
+    ensures { λ b. ⌜ b ≡ someWithin (take count (now (sets .entry))) r ⌝ }
+{
+    let mut i: usize = 0;
+    while i < count {
+        if contains(r, sets[i]) {
+            return true;
+        }
+        i += 1;
+    }
+    false
 }

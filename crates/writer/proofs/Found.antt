@@ -18,8 +18,9 @@ use Rattle.steps.specs.Step.{got}
 use Rattle.steps.specs.Bytes.{byte, word, within, count, wordCount, entry, entries, end}
 use Rattle.steps.proofs.Entries.{next-inv, got-inj, byte-is, byte-in, byte-next, entry-bounds, entry-byte, entries-length}
 use Rattle.steps.proofs.Near.{end-there}
+use Rattle.sheet.specs.declared.Form.the-variants.{One}
 use Rattle.sheet.specs.Job.{Job, Head, accepted}
-use Rattle.sheet.specs.JobSheet.{wireLimit, seenLimit, pinLimit, ruleLimit, termsOf, maskOf, mask, countedMask, rules, head, job, readJob}
+use Rattle.sheet.specs.JobSheet.{wireLimit, seenLimit, pinLimit, ruleLimit, termsOf, maskOf, mask, countedMask, rules, excuses, head, job, readJob}
 use Rattle.sheet.proofs.Jobs.{rules-length}
 use Rattle.sheet.proofs.Laws.{counted-lt, accepted-inv}
 use Rattle.answer.specs.Written.{two, Bytes}
@@ -139,10 +140,10 @@ module _ (s : List ℕ) where
 regroup : (a b c d e : List ℕ) → a ++ b ++ c ++ d ++ e ≡ a ++ (b ++ (c ++ (d ++ e)))
 regroup a b c d e = simp append-assoc
 
-pub job-found : (s : List ℕ) (j : Job) → Bytes s → readJob s ≡ accepted j → Sound j × (jobSheet j ≡ s)
-unfolding readJob job jobSheet
+pub job-found : (s : List ℕ) (j : Job) → Bytes s → readJob One s ≡ accepted j → Sound j × (jobSheet j ≡ s)
+unfolding excuses readJob job jobSheet
 job-found s j b ok =
-    let a = accepted-inv (job s 0) j ok in
+    let a = accepted-inv (job One s 0) j ok in
     let i = next-inv (head s 0) _ j (a .0) (a .1) in
     let r = next-inv (rules (i .0 .count) (termsOf (i .0 .wires)) s (i .1)) _ j (a .0) (i .3) in
     let e = next-inv (end s (r .1)) _ j (a .0) (r .3) in
@@ -164,6 +165,7 @@ job-found s j b ok =
         seesB = rw wires (h .seesB);
         most = rw long (h .most);
         rules = rw wires (rs .0);
+        excuses = refl;
       },
       regroup pins x y (two (length (r .0))) (rulesBytes (r .0))
           ∙ (λ z. pins ++ (x ++ (y ++ (two (long z) ++ sym left z))))

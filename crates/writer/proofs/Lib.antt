@@ -7,3 +7,4 @@ pub mod Sound
 pub mod Stands
 pub mod Found
 pub mod Back
+pub mod Forms

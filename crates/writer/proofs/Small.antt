@@ -114,5 +114,4 @@ code-fine j room e = told (judge j room) (length (jobSheet j)) (judge-small j ro
 pub sheet-small : (j : Job) (room : ℕ) → judge j room ≡ Fine → length (jobSheet j) < 65536
 sheet-small j room h =
     let few = judge-fine j room h in
-    let long = sheet-long (j .pins) (j .seesA) (j .seesB) (j .rules) in
-    omega (arith, few .0, few .1, long, members-few 32 0 (j .seesA), members-few 32 0 (j .seesB), rules-short (j .rules))
+    omega (arith, few .0, few .1, sheet-long j, members-few 32 0 (j .seesA), members-few 32 0 (j .seesB), rules-short (j .rules))

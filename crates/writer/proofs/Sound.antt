@@ -1,4 +1,4 @@
--- What a job has with which nothing is amiss.
+-- What a job has with which nothing is amiss, and which has no excuses.
 --     IsSet, Rules, Sound         a set, rules, and a job within their limits
 --     fine-sound, sound-fine      a job that was judged fine is one, and such a job is judged fine, where there is room
 -- Assumes nothing.
@@ -33,6 +33,7 @@ pub record Sound (j : Job) : Type 0 where
   pub seesB : IsSet seenLimit (length (j .pins)) (j .seesB)
   pub most : length (j .rules) ≤ ruleLimit
   pub rules : Rules (termsOf (length (j .pins))) (j .rules)
+  pub excuses : j .excuses ≡ []
 
 pub rules-lt : (terms : ℕ) (rs : List ℕ) → Rules terms rs → (i : ℕ) → i < length rs → getD rs i 0 < 2 ^ 32
 rules-lt terms [] ok i h = let no : ⊥ = omega arith in absurd no
@@ -89,6 +90,7 @@ fine-sound j room d h =
       seesB = set-fine seenLimit n 3 0 (λ i. i) (j .seesB) (d .seesB) (t₃ .0);
       most = within-fine ruleLimit 4 0 (length (j .rules)) (r .0);
       rules = each-fine (termsOf n) 0 (j .rules) (d .rules) (r .1);
+      excuses = d .excuses;
     }
 
 module _ (j : Job) (ok : Sound j) where

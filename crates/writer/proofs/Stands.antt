@@ -14,8 +14,9 @@ use lib.Seq.{getD-append-seam}
 use Rattle.steps.specs.Step.{got, Reading, _>>=_, give}
 use Rattle.steps.specs.Bytes.{byte, word, within, count, wordCount, rising, entry, entries, end}
 use Rattle.steps.proofs.Near.{byte-there}
+use Rattle.sheet.specs.declared.Form.the-variants.{One}
 use Rattle.sheet.specs.Job.{Job, Head, accepted}
-use Rattle.sheet.specs.JobSheet.{wireLimit, seenLimit, pinLimit, ruleLimit, termsOf, maskOf, mask, countedMask, rules, head, job, readJob}
+use Rattle.sheet.specs.JobSheet.{wireLimit, seenLimit, pinLimit, ruleLimit, termsOf, maskOf, mask, countedMask, rules, excuses, head, job, readJob}
 use Rattle.answer.specs.Written.{two}
 use Rattle.answer.proofs.Sheets.{end-read}
 use Rattle.writer.specs.JobWritten.{members, counted, rulesBytes, jobSheet}
@@ -23,7 +24,7 @@ use Rattle.writer.proofs.Masks.{Rising, mask-members}
 use Rattle.writer.proofs.Sound.{IsSet, Rules, Sound}
 
 -- l, after any p and before any t
-Reads : {A : Type 0} → Reading A → List ℕ → A → Type 0
+unfoldable pub Reads : {A : Type 0} → Reading A → List ℕ → A → Type 0
 Reads m l a = (p t : List ℕ) → m (p ++ (l ++ t)) (length p) ≡ got a (length p + length l)
 
 module _ {A B : Type 0} (m : Reading A) where
@@ -66,7 +67,7 @@ word-reads v =
     (reads-then byte _ (v % 256 ∷ []) (v / 256 ∷ []) (v % 256) (v % 256 + 256 * (v / 256)) (byte-reads (v % 256))
     (reads-give byte (λ high. v % 256 + 256 * high) (v / 256 ∷ []) (v / 256) (byte-reads (v / 256))))
 
-word-count-reads : (most n : ℕ) → n ≤ most → Reads (wordCount most) (two n) n
+pub word-count-reads : (most n : ℕ) → n ≤ most → Reads (wordCount most) (two n) n
 unfolding Reads wordCount within
 word-count-reads most n l p t = rw (word-reads n p t, le-leb n most l)
 
@@ -106,6 +107,9 @@ module _ (j : Job) where
   abbrev headOf : (count : ℕ) → Head
   headOf k = record { wires = length (j .pins); pins = j .pins; seesA = j .seesA; seesB = j .seesB; count = k }
 
+  abbrev jobOf : (excuses : List ℕ) → Job
+  jobOf es = record { pins = j .pins; seesA = j .seesA; seesB = j .seesB; rules = j .rules; excuses = es }
+
   head-reads : Sound j → Reads head front (headOf (length (j .rules)))
   unfolding head
   head-reads ok =
@@ -129,8 +133,8 @@ module _ (j : Job) where
       regroup : (a b c d : List ℕ) → a ++ b ++ c ++ d ≡ a ++ (b ++ (c ++ d))
       regroup a b c d = simp append-assoc
 
-  pub sound-read : Sound j → readJob (jobSheet j) ≡ accepted j
-  unfolding Reads readJob job
+  pub sound-read : Sound j → readJob One (jobSheet j) ≡ accepted j
+  unfolding Reads excuses readJob job
   sound-read ok =
       let r = rulesBytes (j .rules) in
       let s = front ++ r in
@@ -139,4 +143,4 @@ module _ (j : Job) where
       ap (λ (l : List ℕ). rules (length (j .rules)) (termsOf (length (j .pins))) (front ++ l) (length front)) (sym (append-nil r))
       ∙ rules-reads (termsOf (length (j .pins))) (j .rules) (ok .rules) front [] in
       let last : end s (length front + length r) ≡ got 0 (length front + length r) = end-read s (length front + length r) (length-append front r) in
-      rw (sheet-front, first, then, last)
+      rw (sheet-front, first, then, last) (ap (λ (es : List ℕ). accepted (jobOf es)) (sym (ok .excuses)))

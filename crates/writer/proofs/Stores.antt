@@ -14,8 +14,9 @@ use lib.Count.{trailingZeros}
 use lib.ListN.{length, getD, set, drop, length-append, length-set, drop-of-length-le}
 use lib.Seq.{sets, length-sets, drop-cons}
 use Rattle.wires.proofs.Lowest.{rest, rest-below}
+use Rattle.sheet.specs.Job.{Job}
 use Rattle.answer.specs.Written.{two}
-use Rattle.answer.proofs.Runs.{sets-append, joined}
+use Rattle.steps.proofs.Runs.{sets-append, joined}
 use Rattle.writer.specs.JobWritten.{members, counted, rulesBytes, jobSheet, described}
 use Rattle.writer.proofs.Sets.{members-none, members-lowest, members-few}
 
@@ -113,56 +114,55 @@ module _ (buf₀ buf buf₁ rules : List ℕ) (at i place after : ℕ) (l : i < 
 
 -- ---- the whole sheet
 
-pub sheet-long : (pins : List ℕ) (a b : ℕ) (rules : List ℕ)
-    → length (jobSheet (described pins a b rules)) ≡ 5 + length pins + length (members a) + length (members b) + length (rulesBytes rules)
+pub sheet-long : (j : Job) → length (jobSheet j) ≡ 5 + length (j .pins) + length (members (j .seesA)) + length (members (j .seesB)) + length (rulesBytes (j .rules))
 unfolding jobSheet
-sheet-long pins a b rules =
-    let A = counted (members a) in
-    let B = counted (members b) in
-    let P = counted pins in
-    let K = two (length rules) in
+sheet-long j =
+    let A = counted (members (j .seesA)) in
+    let B = counted (members (j .seesB)) in
+    let P = counted (j .pins) in
+    let K = two (length (j .rules)) in
     let l₁ = length-append P A in
     let l₂ = length-append (P ++ A) B in
     let l₃ = length-append (P ++ A ++ B) K in
-    let l₄ = length-append (P ++ A ++ B ++ K) (rulesBytes rules) in
+    let l₄ = length-append (P ++ A ++ B ++ K) (rulesBytes (j .rules)) in
     omega (arith, l₁, l₂, l₃, l₄)
 
 -- the sections written one after another: what each finds room for, and the whole run
 module _ (pins : List ℕ) (a b : ℕ) (rules buf : List ℕ) (room : length (jobSheet (described pins a b rules)) ≤ length buf) where
   pub room-pins : 1 + length pins ≤ length buf
-  room-pins = omega (arith, sheet-long pins a b rules)
+  room-pins = omega (arith, sheet-long (described pins a b rules))
 
   module _ (buf₁ : List ℕ) (at₁ : ℕ) (p₁ : at₁ ≡ 1 + length pins) (e₁ : buf₁ ≡ sets buf 0 (counted pins)) where
     long₁ : length buf₁ ≡ length buf
     long₁ = ap length e₁ ∙ length-sets buf 0 (counted pins)
 
     pub room-a : at₁ + 1 + length (members a) ≤ length buf₁
-    room-a = omega (arith, sheet-long pins a b rules, long₁)
+    room-a = omega (arith, sheet-long (described pins a b rules), long₁)
 
     module _ (buf₂ : List ℕ) (at₂ : ℕ) (p₂ : at₂ ≡ at₁ + 1 + length (members a)) (e₂ : buf₂ ≡ sets buf₁ at₁ (counted (members a))) where
       long₂ : length buf₂ ≡ length buf
       long₂ = ap length e₂ ∙ length-sets buf₁ at₁ (counted (members a)) ∙ long₁
 
       pub room-b : at₂ + 1 + length (members b) ≤ length buf₂
-      room-b = omega (arith, sheet-long pins a b rules, long₂)
+      room-b = omega (arith, sheet-long (described pins a b rules), long₂)
 
       module _ (buf₃ : List ℕ) (at₃ : ℕ) (p₃ : at₃ ≡ at₂ + 1 + length (members b)) (e₃ : buf₃ ≡ sets buf₂ at₂ (counted (members b))) where
         long₃ : length buf₃ ≡ length buf
         long₃ = ap length e₃ ∙ length-sets buf₂ at₂ (counted (members b)) ∙ long₂
 
         pub room-count : at₃ + 2 ≤ length buf₃
-        room-count = omega (arith, sheet-long pins a b rules, long₃)
+        room-count = omega (arith, sheet-long (described pins a b rules), long₃)
 
         module _ (buf₄ : List ℕ) (at₄ : ℕ) (p₄ : at₄ ≡ at₃ + 2) (e₄ : buf₄ ≡ sets buf₃ at₃ (two (length rules))) where
           long₄ : length buf₄ ≡ length buf
           long₄ = ap length e₄ ∙ length-sets buf₃ at₃ (two (length rules)) ∙ long₃
 
           pub room-rules : at₄ + length (rulesBytes rules) ≤ length buf₄
-          room-rules = omega (arith, sheet-long pins a b rules, long₄)
+          room-rules = omega (arith, sheet-long (described pins a b rules), long₄)
 
           module _ (buf₅ : List ℕ) (at₅ : ℕ) (p₅ : at₅ ≡ at₄ + length (rulesBytes rules)) (e₅ : buf₅ ≡ sets buf₄ at₄ (rulesBytes rules)) where
             pub sheet-ends : at₅ ≡ length (jobSheet (described pins a b rules))
-            sheet-ends = omega (arith, sheet-long pins a b rules)
+            sheet-ends = omega (arith, sheet-long (described pins a b rules))
 
             pub sheet-run : buf₅ ≡ sets buf 0 (jobSheet (described pins a b rules))
             unfolding jobSheet

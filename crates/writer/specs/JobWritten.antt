@@ -1,8 +1,9 @@
--- The job sheet as it is written (document 01, "Job sheet"; document 02, request 1).
+-- The job sheet as it is written, in form one (document 01, "Job sheet"; document 02, request 1).
 --     members       the entries of a set, rising
 --     jobSheet      the sheet of a job
---     Describes     the jobs that a description in bytes and masks of 32 digits can give
+--     Describes     the jobs that a description in bytes and masks of 32 digits can give: none has excuses
 -- Assumes nothing: these are definitions.
+use mathlib.Core.Path.{_≡_}
 use mathlib.Core.List.{List, [], _∷_, _++_}
 use Prim.Native.Nat.{ℕ, zero, suc, _+_, _/_, _%_, _^_, _<_}
 use lib.ListN.{length, getD}
@@ -36,13 +37,14 @@ unfoldable pub jobSheet : Job → List ℕ
 jobSheet j =
     counted (j .pins) ++ counted (members (j .seesA)) ++ counted (members (j .seesB)) ++ two (length (j .rules)) ++ rulesBytes (j .rules)
 
--- a description as a job
+-- A description as a job. The writer stays with form one, which has no excuses.
 abbrev pub described : (pins : List ℕ) (seesA seesB : ℕ) (rules : List ℕ) → Job
-described pins a b rules = record { pins = pins; seesA = a; seesB = b; rules = rules }
+described pins a b rules = record { pins = pins; seesA = a; seesB = b; rules = rules; excuses = [] }
 
--- pins are bytes, and sets have 32 digits
+-- pins are bytes, sets have 32 digits, and there are no excuses
 pub record Describes (j : Job) : Type 0 where
   pub pins : Bytes (j .pins)
   pub seesA : j .seesA < 2 ^ 32
   pub seesB : j .seesB < 2 ^ 32
   pub rules : (i : ℕ) → i < length (j .rules) → getD (j .rules) i 0 < 2 ^ 32
+  pub excuses : j .excuses ≡ []

@@ -1,4 +1,4 @@
--- What the writer answers and leaves, for every description and every lent buffer (document 02, request 1).
+-- What the writer answers and leaves, for every description and every lent buffer (document 02, request 1). The sheet is of form one.
 --     judge          the first thing amiss with a description, in section order, or that nothing is
 --     writeOutcome   the outcome
 --     writeExit      what the lent buffer holds afterwards

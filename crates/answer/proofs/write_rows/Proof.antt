@@ -6,7 +6,7 @@ use mathlib.Core.Path.{_≡_, sym, _∙_}
 use lib.ListN.{length, drop, length-set}
 use lib.Seq.{sets}
 use native.Mathlib.Nat.{add-zero}
-use Rattle.answer.proofs.Runs.{sets-turn, sets-done}
+use Rattle.steps.proofs.Runs.{sets-turn, sets-done}
 use Rattle.answer.proofs.write_rows.Statement.{statement}
 use Rattle.answer.proofs.write_rows.Tie as tie
 

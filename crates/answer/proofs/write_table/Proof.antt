@@ -1,7 +1,7 @@
 -- `answer::write_table` meets its contract: two runs, one after the other. Assumes nothing.
 use native.Mathlib.Omega.{arith}
 use Rattle.answer.specs.Written.{two}
-use Rattle.answer.proofs.Runs.{joined}
+use Rattle.steps.proofs.Runs.{joined}
 use lib.ListN.{length}
 use borrow.Author.Needs.{needs}
 use Rattle.answer.proofs.write_table.Statement.{statement}

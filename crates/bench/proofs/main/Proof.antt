@@ -6,43 +6,33 @@ use borrow.Author.Needs.{needs}
 use Rattle.bench.proofs.main.Statement.{statement}
 use Rattle.bench.proofs.main.Tie as tie
 
--- src/main.rt:12:46
 slice-aggregate-read-full : tie.Need-slice-aggregate-read-full
 slice-aggregate-read-full c = search needs
 
--- src/main.rt:12:9
 read-full-requires : tie.Need-read-full-requires
 read-full-requires c κs = search needs
 
--- src/main.rt:14:30
 array-share-prefix-job : tie.Need-array-share-prefix-job
 array-share-prefix-job c = search needs
 
--- src/main.rt:14:30
 slice-aggregate-text : tie.Need-slice-aggregate-text
 slice-aggregate-text c = search needs
 
--- src/main.rt:14:46
 slice-aggregate-text-2 : tie.Need-slice-aggregate-text-2
 slice-aggregate-text-2 c = search needs
 
--- src/main.rt:14:9
 text-requires : tie.Need-text-requires
 text-requires c κs = search needs
 
--- src/main.rt:16:34
 array-share-prefix-out : tie.Need-array-share-prefix-out
 array-share-prefix-out c = texted-fits (c .before .text .ensures)
 
--- src/main.rt:16:34
 slice-aggregate-write-all : tie.Need-slice-aggregate-write-all
 slice-aggregate-write-all c = sym (length-take-le _ _ (texted-fits (c .before .before .text .ensures)))
 
--- src/main.rt:16:5
 write-all-requires : tie.Need-write-all-requires
 write-all-requires c κs = search needs
 
--- src/main.rt:10:1
 returns : tie.Need-returns
 returns c = search needs
 

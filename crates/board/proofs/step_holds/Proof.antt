@@ -8,13 +8,12 @@ use Prim.Native.Nat.{ℕ, _+_, _-_, _/_, _%_, _^_, _<_}
 use native.Mathlib.Omega.{arith}
 use borrow.Author.Needs.{needs}
 use lib.Count.{ones}
-use lib.ListN.{take}
 use lib.Pow.{pow-mono}
 use Rattle.wires.specs.Wires.{shown}
 use Rattle.wires.proofs.Rows.{row-below}
 use Rattle.sheet.specs.declared.JobHead.{JobHead}
 use Rattle.board.specs.Tests.{stepb}
-use Rattle.board.specs.JobBoard.{breaksb, headBoard}
+use Rattle.board.specs.JobBoard.{headBoard}
 use Rattle.board.proofs.StepCases.{from-a, from-a-not, from-b, from-b-not, from-none}
 use Rattle.board.proofs.step_holds.Statement.{statement}
 use Rattle.board.proofs.step_holds.Tie as tie
@@ -30,23 +29,23 @@ record Told (h : JobHead) (a ofA countA ofB : ℕ) : Type 0 where
   many : countA ≡ 2 ^ ones (h .«sees_a»)
   rowB : ofB ≡ shown (h .wires) (h .«sees_b») a
 
-module _ (h : JobHead) (rules : List ℕ) (L M a ofA countA ofB : ℕ) (l : a < 2 ^ h .wires) (t : Told h a ofA countA ofB) where
-  both-a : (r : Bool) → r ≡ breaksb (h .wires) (take (h .rules) rules) a (L % 2) (1 - M % 2) → L / 2 ≡ ofA → M / 2 ≡ countA + ofB
-      → r ≡ stepb (headBoard h rules) L M a
-  both-a r e p q = e ∙ sym (from-a (headBoard h rules) L M a l (row-below (h .wires) (h .«sees_a») a) (omega arith) (omega arith))
+module _ (h : JobHead) (masks : List ℕ) (L M a ofA countA ofB : ℕ) (l : a < 2 ^ h .wires) (t : Told h a ofA countA ofB) where
+  both-a : (r : Bool) → r ≡ headBoard h masks .breaks a (L % 2) (1 - M % 2) → L / 2 ≡ ofA → M / 2 ≡ countA + ofB
+      → r ≡ stepb (headBoard h masks) L M a
+  both-a r e p q = e ∙ sym (from-a (headBoard h masks) L M a l (row-below (h .wires) (h .«sees_a») a) (omega arith) (omega arith))
 
-  not-b : L / 2 ≡ ofA → M / 2 ≢ countA + ofB → false ≡ stepb (headBoard h rules) L M a
-  not-b p q = sym (from-a-not (headBoard h rules) L M a l (row-below (h .wires) (h .«sees_a») a) (omega arith) (λ e. q (omega arith)))
+  not-b : L / 2 ≡ ofA → M / 2 ≢ countA + ofB → false ≡ stepb (headBoard h masks) L M a
+  not-b p q = sym (from-a-not (headBoard h masks) L M a l (row-below (h .wires) (h .«sees_a») a) (omega arith) (λ e. q (omega arith)))
 
-  both-b : (r : Bool) → r ≡ breaksb (h .wires) (take (h .rules) rules) a (1 - M % 2) (L % 2) → L / 2 ≡ countA + ofB → M / 2 ≡ ofA
-      → r ≡ stepb (headBoard h rules) L M a
-  both-b r e p q = e ∙ sym (from-b (headBoard h rules) L M a l (row-below (h .wires) (h .«sees_a») a) (omega arith) (omega arith))
+  both-b : (r : Bool) → r ≡ headBoard h masks .breaks a (1 - M % 2) (L % 2) → L / 2 ≡ countA + ofB → M / 2 ≡ ofA
+      → r ≡ stepb (headBoard h masks) L M a
+  both-b r e p q = e ∙ sym (from-b (headBoard h masks) L M a l (row-below (h .wires) (h .«sees_a») a) (omega arith) (omega arith))
 
-  not-a : L / 2 ≡ countA + ofB → M / 2 ≢ ofA → false ≡ stepb (headBoard h rules) L M a
-  not-a p q = sym (from-b-not (headBoard h rules) L M a l (row-below (h .wires) (h .«sees_a») a) (omega arith) (λ e. q (omega arith)))
+  not-a : L / 2 ≡ countA + ofB → M / 2 ≢ ofA → false ≡ stepb (headBoard h masks) L M a
+  not-a p q = sym (from-b-not (headBoard h masks) L M a l (row-below (h .wires) (h .«sees_a») a) (omega arith) (λ e. q (omega arith)))
 
-  neither : L / 2 ≢ ofA → L / 2 ≢ countA + ofB → false ≡ stepb (headBoard h rules) L M a
-  neither p q = sym (from-none (headBoard h rules) L M a l (row-below (h .wires) (h .«sees_a») a) (λ e. p (omega arith)) (λ e. q (omega arith)))
+  neither : L / 2 ≢ ofA → L / 2 ≢ countA + ofB → false ≡ stepb (headBoard h masks) L M a
+  neither p q = sym (from-none (headBoard h masks) L M a l (row-below (h .wires) (h .«sees_a») a) (λ e. p (omega arith)) (λ e. q (omega arith)))
 
 -- the place where both rows are known
 abbrev Shown : Type 0
@@ -100,13 +99,13 @@ returns : tie.Need-returns
 returns c =
     let p = c .before .before .before .before .before in
     let s = p .before .before .before .before .before .before in
-    both-a (s .args .h) (s .args .rules .now) (s .args .l .0) (s .args .m .0) _ _ _ _ (s .pre .1) (told p) _ (c .test .ensures) (c .before .before .if1 .taken) (c .before .if2 .taken)
+    both-a (s .args .h) (s .args .masks .now) (s .args .l .0) (s .args .m .0) _ _ _ _ (s .pre .1) (told p) _ (c .test .ensures) (c .before .before .if1 .taken) (c .before .if2 .taken)
 
 returns-2 : tie.Need-returns-2
 returns-2 c =
     let p = c .before .before .before .before in
     let s = p .before .before .before .before .before .before in
-    not-b (s .args .h) (s .args .rules .now) (s .args .l .0) (s .args .m .0) _ _ _ _ (s .pre .1) (told p) (c .before .if1 .taken) (c .if2 .left)
+    not-b (s .args .h) (s .args .masks .now) (s .args .l .0) (s .args .m .0) _ _ _ _ (s .pre .1) (told p) (c .before .if1 .taken) (c .if2 .left)
 
 sub-test-2 : tie.Need-sub-test-2
 sub-test-2 c = search needs
@@ -118,19 +117,19 @@ returns-3 : tie.Need-returns-3
 returns-3 c =
     let p = c .before .before .before .before .before .before in
     let s = p .before .before .before .before .before .before in
-    both-b (s .args .h) (s .args .rules .now) (s .args .l .0) (s .args .m .0) _ _ _ _ (s .pre .1) (told p) _ (c .test2 .ensures) (c .before .before .if3 .taken) (c .before .if4 .taken)
+    both-b (s .args .h) (s .args .masks .now) (s .args .l .0) (s .args .m .0) _ _ _ _ (s .pre .1) (told p) _ (c .test2 .ensures) (c .before .before .if3 .taken) (c .before .if4 .taken)
 
 returns-4 : tie.Need-returns-4
 returns-4 c =
     let p = c .before .before .before .before .before in
     let s = p .before .before .before .before .before .before in
-    not-a (s .args .h) (s .args .rules .now) (s .args .l .0) (s .args .m .0) _ _ _ _ (s .pre .1) (told p) (c .before .if3 .taken) (c .if4 .left)
+    not-a (s .args .h) (s .args .masks .now) (s .args .l .0) (s .args .m .0) _ _ _ _ (s .pre .1) (told p) (c .before .if3 .taken) (c .if4 .left)
 
 returns-5 : tie.Need-returns-5
 returns-5 c =
     let p = c .before .before .before .before in
     let s = p .before .before .before .before .before .before in
-    neither (s .args .h) (s .args .rules .now) (s .args .l .0) (s .args .m .0) _ _ _ _ (s .pre .1) (told p) (c .before .if1 .left) (c .if3 .left)
+    neither (s .args .h) (s .args .masks .now) (s .args .l .0) (s .args .m .0) _ _ _ _ (s .pre .1) (told p) (c .before .if1 .left) (c .if3 .left)
 
 pub step-holds-spec : {M : Type 1} → statement M
 step-holds-spec =

@@ -10,7 +10,7 @@ check-requires : tie.Need-check-requires
 check-requires c κs = search needs
 
 packed-requires : tie.Need-packed-requires
-packed-requires c κs = rw (c .check .ensures) (check-packs _ _)
+packed-requires c κs = rw (c .check .ensures) (check-packs _ _ _)
 
 returns : tie.Need-returns
 returns c = c .packed .ensures ∙ ap pack (c .before .check .ensures)

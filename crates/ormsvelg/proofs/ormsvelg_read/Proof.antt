@@ -10,7 +10,7 @@ read-sheet-requires : tie.Need-read-sheet-requires
 read-sheet-requires c κs = search needs
 
 packed-requires : tie.Need-packed-requires
-packed-requires c κs = rw (c .read-sheet .ensures) (read-packs _)
+packed-requires c κs = rw (c .read-sheet .ensures) (read-packs _ _)
 
 returns : tie.Need-returns
 returns c = c .packed .ensures ∙ ap pack (c .before .read-sheet .ensures)

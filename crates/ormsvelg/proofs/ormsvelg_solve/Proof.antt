@@ -14,7 +14,7 @@ same-length : tie.Need-same-length
 same-length c = search needs
 
 returns : tie.Need-returns
-returns c = solve-found _ _ _ _ _ (c .packed .ensures) (c .before .before .before .solve .ensures)
+returns c = solve-found _ _ _ _ _ _ (c .packed .ensures) (c .before .before .before .solve .ensures)
 
 pub ormsvelg-solve-spec : {M : Type 1} → statement M
 ormsvelg-solve-spec = tie.close (tie.spec solve-requires packed-requires same-length returns)

@@ -10,7 +10,7 @@ widen-requires : tie.Need-widen-requires
 widen-requires c κs = search needs
 
 packed-requires : tie.Need-packed-requires
-packed-requires c κs = rw (c .before .before .widen .ensures .outcome) (widen-packs _ _ _ _)
+packed-requires c κs = rw (c .before .before .widen .ensures .outcome) (widen-packs _ _ _ _ _)
 
 same-length : tie.Need-same-length
 same-length c = search needs

@@ -1,6 +1,6 @@
--- `sheet::read_rules` meets its contract. The invariant: the whole is what is left of the rules, from here on, and the lent array at the end is the array as it stands with what is left stored from i on. The measure is the count of what is left. Assumes nothing.
+-- `sheet::read_rules` meets its contract. The invariant: the whole is what is left of the rules, from here on, and the lent array at the end is the array as it stands with what is left stored from first + i on. The measure is the count of what is left. Assumes nothing.
 use borrow.Author.Needs.{needs}
-use Prim.Native.Nat.{_-_, _≤_}
+use Prim.Native.Nat.{_+_, _-_, _≤_}
 use mathlib.Core.Path.{_≡_, sym, ap, _∙_}
 use native.Mathlib.Numerals.{add-one-le}
 use native.Mathlib.Omega.{arith}
@@ -13,15 +13,15 @@ use Rattle.sheet.proofs.read_rules.Statement.{statement}
 use Rattle.sheet.proofs.read_rules.Tie as tie
 
 abbrev Inv-loop : tie.InvT-loop
-Inv-loop sheet at count terms rules₀ place₀ i₀ rules place i =
+Inv-loop sheet at count terms masks₀ first place₀ i₀ masks place i =
     (i ≤ count) × (rulesPass count terms sheet at ≡ rulesFrom (count - i) terms count sheet place)
-    × (sets rules₀ 0 (kept count terms sheet at) ≡ sets rules i (kept (count - i) terms sheet place))
+    × (sets masks₀ first (kept count terms sheet at) ≡ sets masks (first + i) (kept (count - i) terms sheet place))
 
 abbrev μ-loop : tie.MeasureT-loop
-μ-loop sheet at count terms rules₀ place₀ i₀ rules place i = count - i
+μ-loop sheet at count terms masks₀ first place₀ i₀ masks place i = count - i
 
 loop-holds : tie.Need-loop-holds Inv-loop μ-loop
-loop-holds c = (search needs, rules-start _ _ _ _, kept-start _ _ _ _ _)
+loop-holds c = (search needs, rules-start _ _ _ _, kept-start _ _ _ _ _ _)
 
 read-counted-set-requires : tie.Need-read-counted-set-requires Inv-loop μ-loop
 read-counted-set-requires c κs = omega arith
@@ -38,16 +38,19 @@ returns c =
     let inv = turn .before .before .loop .inv in
     let more = turn .before .loop-test .taken in
     let is = faulty _ _ _ (turn .read-counted-set .ensures) (c .enum-told .given .1) in
-    (c .enum-told .given .1 ∙ ap asRead (sym (inv .1 ∙ rules-stop _ _ _ _ _ more _ is)), sym (inv .2 ∙ kept-stop _ _ _ _ _ more _ _ is))
+    (c .enum-told .given .1 ∙ ap asRead (sym (inv .1 ∙ rules-stop _ _ _ _ _ more _ is)), sym (inv .2 ∙ kept-stop _ _ _ _ _ more _ _ _ is))
 
-cast-rules : tie.Need-cast-rules Inv-loop μ-loop
-cast-rules c = omega arith
+add-masks : tie.Need-add-masks Inv-loop μ-loop
+add-masks c = omega arith
 
-mul-rules : tie.Need-mul-rules Inv-loop μ-loop
-mul-rules c = omega arith
+cast-masks : tie.Need-cast-masks Inv-loop μ-loop
+cast-masks c = omega arith
 
-element-write-rules : tie.Need-element-write-rules Inv-loop μ-loop
-element-write-rules c = omega arith
+mul-masks : tie.Need-mul-masks Inv-loop μ-loop
+mul-masks c = omega arith
+
+element-write-masks : tie.Need-element-write-masks Inv-loop μ-loop
+element-write-masks c = omega arith
 
 add-i : tie.Need-add-i Inv-loop μ-loop
 add-i c = omega arith
@@ -61,12 +64,12 @@ loop-again c =
     let inv = turn .before .before .loop .inv in
     let more = turn .before .loop-test .taken in
     let is = found _ _ _ _ (turn .read-counted-set .ensures) (c .before .rule .given .1) in
-    (add-one-le more, inv .1 ∙ rules-go _ _ _ _ _ more _ _ is, inv .2 ∙ kept-go _ _ _ _ _ more _ _ _ is)
+    (add-one-le more, inv .1 ∙ rules-go _ _ _ _ _ more _ _ is, inv .2 ∙ kept-go _ _ _ _ _ more _ _ _ _ is)
 
 returns-2 : tie.Need-returns-2 Inv-loop μ-loop
 returns-2 c =
     let inv = c .before .loop .inv in
-    (ap asRead (sym (inv .1 ∙ rules-done _ _ _ _ _ (c .loop-test .left))), sym (inv .2 ∙ kept-done _ _ _ _ _ (c .loop-test .left) _))
+    (ap asRead (sym (inv .1 ∙ rules-done _ _ _ _ _ (c .loop-test .left))), sym (inv .2 ∙ kept-done _ _ _ _ _ (c .loop-test .left) _ _))
 
 pub read-rules-spec : {M : Type 1} → statement M
 read-rules-spec =
@@ -79,9 +82,10 @@ read-rules-spec =
     enum-known-rule
     enum-told
     returns
-    cast-rules
-    mul-rules
-    element-write-rules
+    add-masks
+    cast-masks
+    mul-masks
+    element-write-masks
     add-i
     loop-less
     loop-again

@@ -21,10 +21,10 @@ refused-job-requires : tie.Need-refused-job-requires
 refused-job-requires c κs = search needs
 
 returns : tie.Need-returns
-returns c = c .succeeded .ensures ∙ read-accepted _ _ _ (c .before .before .before .read-job .ensures .0) (c .before .enum-told .given .1)
+returns c = c .succeeded .ensures ∙ read-accepted _ _ _ _ (c .before .before .before .read-job .ensures .0) (c .before .enum-told .given .1)
 
 returns-2 : tie.Need-returns-2
-returns-2 c = c .refused-job .ensures ∙ read-refused _ _ _ (c .before .before .before .before .read-job .ensures .0) (c .before .before .read .given .1)
+returns-2 c = c .refused-job .ensures ∙ read-refused _ _ _ _ (c .before .before .before .before .read-job .ensures .0) (c .before .before .read .given .1)
 
 pub read-sheet-spec : {M : Type 1} → statement M
 read-sheet-spec =

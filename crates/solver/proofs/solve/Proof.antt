@@ -22,16 +22,16 @@ refused-requires c κs = search needs
 returns : tie.Need-returns
 returns c =
     let r = c .before .before .before .before .before in
-    let t = taken _ (replicate 256 0) refl _ _ _ (r .read-job .ensures .0) (c .before .before .before .read .given .1) (r .read-job .ensures .1) in
+    let t = taken _ _ (replicate 320 0) refl _ _ _ (r .read-job .ensures .0) (c .before .before .before .read .given .1) (r .read-job .ensures .1) in
     taken-no-room t (c .before .if1 .taken) (c .refused .ensures)
 
 slice-aggregate-solve-board : tie.Need-slice-aggregate-solve-board
-slice-aggregate-solve-board c = let r = c .before .before .before .before .before in sym (ap length (r .read-job .ensures .1) ∙ stored-length _ (replicate 256 0) refl)
+slice-aggregate-solve-board c = let r = c .before .before .before .before .before in sym (ap length (r .read-job .ensures .1) ∙ stored-length _ _ (replicate 320 0) refl)
 
 solve-board-requires : tie.Need-solve-board-requires
 solve-board-requires c κs =
     let r = c .before .before .before .before .before .before in
-    let t = taken _ (replicate 256 0) refl _ _ _ (r .read-job .ensures .0) (c .before .before .before .before .read .given .1) (r .read-job .ensures .1) in
+    let t = taken _ _ (replicate 320 0) refl _ _ _ (r .read-job .ensures .0) (c .before .before .before .before .read .given .1) (r .read-job .ensures .1) in
     (t .sized, omega arith)
 
 enum-known-read-2 : tie.Need-enum-known-read-2
@@ -46,13 +46,13 @@ same-length c = search needs
 returns-2 : tie.Need-returns-2
 returns-2 c =
     let r = c .before .before .before .before .before .before .before .before .before in
-    let t = taken _ (replicate 256 0) refl _ _ _ (r .read-job .ensures .0) (c .before .before .before .before .before .before .before .read .given .1) (r .read-job .ensures .1) in
+    let t = taken _ _ (replicate 320 0) refl _ _ _ (r .read-job .ensures .0) (c .before .before .before .before .before .before .before .read .given .1) (r .read-job .ensures .1) in
     taken-solved t (c .before .before .before .before .before .if1 .left) (c .before .before .solve-board .ensures)
 
 returns-3 : tie.Need-returns-3
 returns-3 c =
     let r = c .before .before .before .before in
-    refused _ (job-refused _ _ _ (r .read-job .ensures .0) (c .before .before .read2 .given .1)) (c .refused-job .ensures) refl
+    refused _ (job-refused _ _ _ _ (r .read-job .ensures .0) (c .before .before .read2 .given .1)) (c .refused-job .ensures) refl
 
 pub solve-spec : {M : Type 1} → statement M
 solve-spec =

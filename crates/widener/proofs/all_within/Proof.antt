@@ -1,5 +1,5 @@
--- `widener::all_within` meets its contract. Invariant: each rule contains one of the others exactly where each of those from i on does. The measure
--- is the rules left. Assumes nothing.
+-- `widener::all_within` meets its contract. Invariant: each set contains one of the others exactly where each of those from i on does. The measure
+-- is the sets left. Assumes nothing.
 use mathlib.Core.Path.{_≡_, refl, sym, _∙_}
 use mathlib.Core.Bool.{Bool, true, false, not}
 use mathlib.Core.List.{List}
@@ -8,31 +8,32 @@ use native.Mathlib.Omega.{arith}
 use borrow.Author.Needs.{needs}
 use borrow.Author.Tests.{not-true, not-false}
 use lib.ListN.{length, getD, take, drop}
-use Rattle.widener.specs.Asks.{someWithin, allWithin}
+use Rattle.wires.specs.Terms.{someWithin}
+use Rattle.widener.specs.Asks.{allWithin}
 use Rattle.widener.proofs.Within.{all-turn, all-missed, all-end}
 use Rattle.widener.proofs.all_within.Statement.{statement}
 use Rattle.widener.proofs.all_within.Tie as tie
 
-record Inv (ps rules : List ℕ) (count i : ℕ) : Type 0 where
+record Inv (ps sets : List ℕ) (count i : ℕ) : Type 0 where
   within : i ≤ count
-  left : allWithin ps (take count rules) ≡ allWithin ps (drop i (take count rules))
+  left : allWithin ps (take count sets) ≡ allWithin ps (drop i (take count sets))
 
 abbrev Inv-loop : tie.InvT-loop
-Inv-loop rules-p count-p rules-q count-q i₀ i = Inv (take count-p rules-p) rules-q count-q i
+Inv-loop narrow count wide many i₀ i = Inv (take count narrow) wide many i
 
 abbrev μ-loop : tie.MeasureT-loop
-μ-loop rules-p count-p rules-q count-q i₀ i = count-q - i
+μ-loop narrow count wide many i₀ i = many - i
 
--- rule i contains one, rule i contains none, and no rule is left
-module _ (ps rules : List ℕ) (count i : ℕ) (v : Inv ps rules count i) (long : count ≤ length rules) where
-  step : i < count → (b : Bool) → b ≡ someWithin ps (getD rules i 0) → not b ≡ false → allWithin ps (take count rules) ≡ allWithin ps (drop (i + 1) (take count rules))
-  step l b m e = v .left ∙ all-turn ps rules count i long l (sym m ∙ not-false b e)
+-- set i contains one, set i contains none, and no set is left
+module _ (ps sets : List ℕ) (count i : ℕ) (v : Inv ps sets count i) (long : count ≤ length sets) where
+  step : i < count → (b : Bool) → b ≡ someWithin ps (getD sets i 0) → not b ≡ false → allWithin ps (take count sets) ≡ allWithin ps (drop (i + 1) (take count sets))
+  step l b m e = v .left ∙ all-turn ps sets count i long l (sym m ∙ not-false b e)
 
-  missed : i < count → (b : Bool) → b ≡ someWithin ps (getD rules i 0) → not b ≡ true → false ≡ allWithin ps (take count rules)
-  missed l b m e = sym (v .left ∙ all-missed ps rules count i long l (sym m ∙ not-true b e))
+  missed : i < count → (b : Bool) → b ≡ someWithin ps (getD sets i 0) → not b ≡ true → false ≡ allWithin ps (take count sets)
+  missed l b m e = sym (v .left ∙ all-missed ps sets count i long l (sym m ∙ not-true b e))
 
-  ended : count ≤ i → true ≡ allWithin ps (take count rules)
-  ended l = sym (v .left ∙ rw same (all-end ps rules count long))
+  ended : count ≤ i → true ≡ allWithin ps (take count sets)
+  ended l = sym (v .left ∙ rw same (all-end ps sets count long))
     where
       same : i ≡ count
       same = omega (arith, v .within)

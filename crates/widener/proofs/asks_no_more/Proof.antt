@@ -1,8 +1,9 @@
 -- `widener::asks_no_more` meets its contract: the answer is the test of the two jobs, part by part.
 -- Assumes nothing.
 use mathlib.Core.Path.{refl}
+use native.Mathlib.Omega.{arith}
 use borrow.Author.Needs.{needs}
-use Rattle.widener.proofs.Asked.{pins-in, other-wires, other-pins, unseen-a, unseen-b, asks-rest}
+use Rattle.widener.proofs.Asked.{pins-in, rules-in, excuses-in, other-wires, other-pins, unseen-a, unseen-b, more-rules, asks-rest}
 use Rattle.widener.proofs.asks_no_more.Statement.{statement}
 use Rattle.widener.proofs.asks_no_more.Tie as tie
 
@@ -46,21 +47,68 @@ returns-4 c =
     (c .before .contains2 .ensures)
     (c .if4 .taken)
 
+cast-rules-p : tie.Need-cast-rules-p
+cast-rules-p c = search needs
+
+cast-rules-q : tie.Need-cast-rules-q
+cast-rules-q c = search needs
+
+all-within-requires : tie.Need-all-within-requires
+all-within-requires c κs = let start = c .before .before .before .before .before .before .before .before .before .before .before .before .before .before .before .before .pre in (rules-in _ _ (start .0 .1), rules-in _ _ (start .1 .1))
+
+returns-5 : tie.Need-returns-5
+returns-5 c =
+    let at-b = c .before .before .before .before .before in
+    let at-a = at-b .before .before in
+    let at-pins = at-a .before .before in
+    λ P Q tp tq.
+    more-rules _ _ _ _ _ _ P Q tp tq (at-pins .before .before .if1 .left) _ (at-pins .same-pins .ensures) (at-a .before .if2 .left) _
+    (at-a .contains .ensures)
+    (at-b .before .if3 .left)
+    _
+    (at-b .contains2 .ensures)
+    (c .before .before .before .before .if4 .left)
+    _
+    (c .before .all-within .ensures)
+    (c .if5 .taken)
+
+mul-excuses-p : tie.Need-mul-excuses-p
+mul-excuses-p c = search needs
+
+sub-excuses-p : tie.Need-sub-excuses-p
+sub-excuses-p c = rules-in _ _ (c .before .before .before .before .before .before .before .before .before .before .before .before .before .before .before .before .before .before .pre .0 .1)
+
+part-excuses-p-start : tie.Need-part-excuses-p-start
+part-excuses-p-start c = rules-in _ _ (c .before .before .before .before .before .before .before .before .before .before .before .before .before .before .before .before .before .before .pre .0 .1)
+
+part-excuses-p-end : tie.Need-part-excuses-p-end
+part-excuses-p-end c = search needs
+
+mul-excuses-q : tie.Need-mul-excuses-q
+mul-excuses-q c = search needs
+
+sub-excuses-q : tie.Need-sub-excuses-q
+sub-excuses-q c = rules-in _ _ (c .before .before .before .before .before .before .before .before .before .before .before .before .before .before .before .before .before .before .before .pre .1 .1)
+
+part-excuses-q-start : tie.Need-part-excuses-q-start
+part-excuses-q-start c = rules-in _ _ (c .before .before .before .before .before .before .before .before .before .before .before .before .before .before .before .before .before .before .before .pre .1 .1)
+
+part-excuses-q-end : tie.Need-part-excuses-q-end
+part-excuses-q-end c = search needs
+
 cast-all-within : tie.Need-cast-all-within
 cast-all-within c = search needs
 
 cast-all-within-2 : tie.Need-cast-all-within-2
 cast-all-within-2 c = search needs
 
-all-within-requires : tie.Need-all-within-requires
-all-within-requires c κs =
-    let at-pins = c .before .before .before .before .before .before .before in
-    let start = at-pins .before .before .before .before .before .before .before .before .before in
-    (start .pre .0 .1 .sized .count, start .pre .1 .1 .sized .count)
+all-within-requires-2 : tie.Need-all-within-requires-2
+all-within-requires-2 c κs = let start = c .before .before .before .before .before .before .before .before .before .before .before .before .before .before .before .before .before .before .before .before .before .before .pre in (excuses-in _ _ (start .1 .1), excuses-in _ _ (start .0 .1))
 
-returns-5 : tie.Need-returns-5
-returns-5 c =
-    let at-b = c .before .before .before .before in
+returns-6 : tie.Need-returns-6
+returns-6 c =
+    let d = c .before .before .before .before .before in
+    let at-b = d .before .before .before .before .before in
     let at-a = at-b .before .before in
     let at-pins = at-a .before .before in
     λ P Q tp tq.
@@ -69,9 +117,12 @@ returns-5 c =
     (at-b .before .if3 .left)
     _
     (at-b .contains2 .ensures)
-    (c .before .before .before .if4 .left)
+    (d .before .before .before .before .if4 .left)
     _
-    (c .all-within .ensures)
+    (d .before .all-within .ensures)
+    (d .if5 .left)
+    _
+    (c .all-within2 .ensures)
 
 pub asks-no-more-spec : {M : Type 1} → statement M
 asks-no-more-spec =
@@ -85,7 +136,19 @@ asks-no-more-spec =
     returns-3
     contains-requires-2
     returns-4
+    cast-rules-p
+    cast-rules-q
+    all-within-requires
+    returns-5
+    mul-excuses-p
+    sub-excuses-p
+    part-excuses-p-start
+    part-excuses-p-end
+    mul-excuses-q
+    sub-excuses-q
+    part-excuses-q-start
+    part-excuses-q-end
     cast-all-within
     cast-all-within-2
-    all-within-requires
-    returns-5)
+    all-within-requires-2
+    returns-6)

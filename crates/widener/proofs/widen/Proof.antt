@@ -4,7 +4,7 @@ use borrow.Author.Needs.{needs}
 use lib.ListN.{length, replicate}
 use Rattle.sheet.proofs.Jobs.{job-refused}
 use Rattle.board.proofs.Accepting.{stored-length, taken}
-use Rattle.widener.proofs.Ends.{taken-as, refused-first}
+use Rattle.widener.proofs.Ends.{taken-as, refused-first, taken-first}
 use Rattle.widener.proofs.widen.Statement.{statement}
 use Rattle.widener.proofs.widen.Tie as tie
 
@@ -17,12 +17,13 @@ enum-known-read c = search needs
 slice-aggregate-widen-from : tie.Need-slice-aggregate-widen-from
 slice-aggregate-widen-from c =
     let r = c .before .before .before .before in
-    sym (ap length (r .read-job .ensures .1) ∙ stored-length _ (replicate 256 0) refl)
+    sym (ap length (r .read-job .ensures .1) ∙ stored-length _ _ (replicate 320 0) refl)
 
 widen-from-requires : tie.Need-widen-from-requires
 widen-from-requires c κs =
     let r = c .before .before .before .before .before in
-    taken-as (taken _ (replicate 256 0) refl _ _ _ (r .read-job .ensures .0) (c .before .before .before .read .given .1) (r .read-job .ensures .1))
+    let t = taken _ _ (replicate 320 0) refl _ _ _ (r .read-job .ensures .0) (c .before .before .before .read .given .1) (r .read-job .ensures .1) in
+    (t .job, taken-as t)
 
 enum-known-read-2 : tie.Need-enum-known-read-2
 enum-known-read-2 c = search needs
@@ -34,12 +35,15 @@ same-length : tie.Need-same-length
 same-length c = search needs
 
 returns : tie.Need-returns
-returns c = search needs
+returns c =
+    let r = c .before .before .before .before .before .before .before .before in
+    let t = taken _ _ (replicate 320 0) refl _ _ _ (r .read-job .ensures .0) (c .before .before .before .before .before .before .read .given .1) (r .read-job .ensures .1) in
+    taken-first _ _ _ _ _ (t .job) (t .is) (c .before .before .widen-from .ensures (t .job) (taken-as t))
 
 returns-2 : tie.Need-returns-2
 returns-2 c =
     let r = c .before .before .before .before in
-    refused-first _ _ _ _ _ (job-refused _ _ _ (r .read-job .ensures .0) (c .before .before .read2 .given .1)) (c .refused-job .ensures)
+    refused-first _ _ _ _ _ _ (job-refused _ _ _ _ (r .read-job .ensures .0) (c .before .before .read2 .given .1)) (c .refused-job .ensures)
 
 pub widen-spec : {M : Type 1} → statement M
 widen-spec =

@@ -14,16 +14,12 @@ refused-requires c κs = search needs
 
 returns : tie.Need-returns
 returns c =
-    let f = c .before .before .before .before .before .before .before .before .before .before in
-    let tp = f .pre .0 .1 in
-    let tq = f .pre .1 .1 in
+    λ P Q tp tq.
     ends-walk _ _ _ _ _ _ _ _ _ _ tp tq (c .before .before .before .check-answer .ensures) (c .before .if1 .taken) (c .refused .ensures)
 
 returns-2 : tie.Need-returns-2
 returns-2 c =
-    let f = c .before .before .before .before .before .before .before .before .before .before .before in
-    let tp = f .pre .0 .1 in
-    let tq = f .pre .1 .1 in
+    λ P Q tp tq.
     ends-checked _ _ _ _ _ _ _ _ _ _ tp tq (c .before .before .before .before .check-answer .ensures) (c .before .before .if1 .left) (c .if2 .taken)
 
 asks-no-more-requires : tie.Need-asks-no-more-requires
@@ -34,10 +30,8 @@ refused-requires-2 c κs = search needs
 
 returns-3 : tie.Need-returns-3
 returns-3 c =
-    let f = c .before .before .before .before .before .before .before .before .before .before .before .before .before .before in
-    let tp = f .pre .0 .1 in
-    let tq = f .pre .1 .1 in
-    let asked = c .before .before .asks-no-more .ensures (f .pre .0 .0) (f .pre .1 .0) tp tq in
+    λ P Q tp tq.
+    let asked = c .before .before .asks-no-more .ensures P Q tp tq in
     ends-asks _ _ _ _ _ _ _ _ _ _ tp tq
     (c .before .before .before .before .before .before .before .check-answer .ensures)
     (c .before .before .before .if2 .left)
@@ -49,10 +43,8 @@ refused-requires-3 c κs = search needs
 
 returns-4 : tie.Need-returns-4
 returns-4 c =
-    let f = c .before .before .before .before .before .before .before .before .before .before .before .before .before .before .before in
-    let tp = f .pre .0 .1 in
-    let tq = f .pre .1 .1 in
-    let asked = c .before .before .before .asks-no-more .ensures (f .pre .0 .0) (f .pre .1 .0) tp tq in
+    λ P Q tp tq.
+    let asked = c .before .before .before .asks-no-more .ensures P Q tp tq in
     ends-room _ _ _ _ _ _ _ _ _ _ tp tq
     (c .before .before .before .before .before .before .before .before .check-answer .ensures)
     (c .before .before .before .before .if2 .left)
@@ -78,10 +70,8 @@ same-length c = search needs
 
 returns-5 : tie.Need-returns-5
 returns-5 c =
-    let f = c .before .before .before .before .before .before .before .before .before .before .before .before .before .before .before .before .before .before .before in
-    let tp = f .pre .0 .1 in
-    let tq = f .pre .1 .1 in
-    let asked = c .before .before .before .before .before .before .before .asks-no-more .ensures (f .pre .0 .0) (f .pre .1 .0) tp tq in
+    λ P Q tp tq.
+    let asked = c .before .before .before .before .before .before .before .asks-no-more .ensures P Q tp tq in
     ends-written _ _ _ _ _ _ _ _ _ _ tp tq
     (c .before .before .before .before .before .before .before .before .before .before .before .before .check-answer .ensures)
     (c .before .before .before .before .before .before .before .before .if2 .left)

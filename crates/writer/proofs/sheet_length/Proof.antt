@@ -1,6 +1,7 @@
 -- `writer::sheet_length` meets its contract: the sections, one after another. Assumes nothing.
 use native.Mathlib.Omega.{arith}
 use borrow.Author.Needs.{needs}
+use Rattle.writer.specs.JobWritten.{described}
 use Rattle.writer.proofs.Sets.{members-few}
 use Rattle.writer.proofs.Stores.{rules-short, sheet-long}
 use Rattle.writer.proofs.sheet_length.Statement.{statement}
@@ -34,7 +35,7 @@ add-result-4 c =
 returns : tie.Need-returns
 returns c =
     let start = c .before .before .before .before .before in
-    let long = sheet-long (start .args .pins .now) (start .args .sees-a) (start .args .sees-b) (start .args .rules .now) in
+    let long = sheet-long (described (start .args .pins .now) (start .args .sees-a) (start .args .sees-b) (start .args .rules .now)) in
     omega (arith, c .before .before .size .ensures, c .before .size2 .ensures, c .rules-length .ensures, long)
 
 pub sheet-length-spec : {M : Type 1} → statement M

@@ -3,7 +3,7 @@ use native.Mathlib.Omega.{arith}
 use borrow.Author.Needs.{needs}
 use mathlib.Core.List.{[], _∷_}
 use Prim.Native.Nat.{_/_, _%_}
-use Rattle.answer.proofs.Runs.{joined}
+use Rattle.steps.proofs.Runs.{joined}
 use Rattle.writer.proofs.write_count.Statement.{statement}
 use Rattle.writer.proofs.write_count.Tie as tie
 

@@ -16,12 +16,12 @@ enum-known-read c = search needs
 slice-aggregate-check-answer : tie.Need-slice-aggregate-check-answer
 slice-aggregate-check-answer c =
     let r = c .before .before .before .before in
-    sym (ap length (r .read-job .ensures .1) ∙ stored-length _ (replicate 256 0) refl)
+    sym (ap length (r .read-job .ensures .1) ∙ stored-length _ _ (replicate 320 0) refl)
 
 check-answer-requires : tie.Need-check-answer-requires
 check-answer-requires c κs =
     let r = c .before .before .before .before in
-    taken _ (replicate 256 0) refl _ _ _ (r .read-job .ensures .0) (c .before .before .read .given .1) (r .read-job .ensures .1) .sized
+    taken _ _ (replicate 320 0) refl _ _ _ (r .read-job .ensures .0) (c .before .before .read .given .1) (r .read-job .ensures .1) .sized
 
 enum-known-read-2 : tie.Need-enum-known-read-2
 enum-known-read-2 c = search needs
@@ -33,12 +33,12 @@ returns : tie.Need-returns
 returns c =
     let r = c .before .before .before .before .before in
     c .check-answer .ensures
-    ∙ taken-checked _ _ _ (taken _ (replicate 256 0) refl _ _ _ (r .read-job .ensures .0) (c .before .before .before .read .given .1) (r .read-job .ensures .1)) _
+    ∙ taken-checked _ _ _ _ (taken _ _ (replicate 320 0) refl _ _ _ (r .read-job .ensures .0) (c .before .before .before .read .given .1) (r .read-job .ensures .1)) _
 
 returns-2 : tie.Need-returns-2
 returns-2 c =
     let r = c .before .before .before .before in
-    c .refused-job .ensures ∙ refused-checked _ _ (job-refused _ _ _ (r .read-job .ensures .0) (c .before .before .read2 .given .1)) _
+    c .refused-job .ensures ∙ refused-checked _ _ _ (job-refused _ _ _ _ (r .read-job .ensures .0) (c .before .before .read2 .given .1)) _
 
 pub check-spec : {M : Type 1} → statement M
 check-spec =

@@ -45,7 +45,7 @@ judge-tables-requires c κs =
     let s = c .before .before .before .before .before .before .before .before in
     let r = c .before .before in
     let t = tables-told (s .args .h) _ _ _ _ (r .before .before .before .row-count .ensures) (r .before .before .row-count2 .ensures) (combinations-are _ (s .pre .wires)) _ (r .read-answer .ensures) (c .enum-told .given .1) in
-    (s .pre, tables-in (s .args .h) (s .args .rules .now) _ (t .0) (t .1) (t .2))
+    (s .pre, tables-in (s .args .h) (s .args .masks .now) _ (t .0) (t .1) (t .2))
 
 enum-known-read : tie.Need-enum-known-read
 enum-known-read c = search needs
@@ -55,7 +55,7 @@ judge-walk-requires c κs =
     let s = c .before .before .before .before .before .before .before .before .before in
     let r = c .before .before .before in
     let t = walk-told (s .args .h) _ _ _ _ (r .before .before .before .row-count .ensures) (r .before .before .row-count2 .ensures) (combinations-are _ (s .pre .wires)) _ (r .read-answer .ensures) _ (c .before .read .given .1) in
-    (s .pre, rw (t .2) (walk-holds (s .args .h) (s .args .rules .now) _ (t .0) (t .1)))
+    (s .pre, rw (t .2) (walk-holds (s .args .h) (s .args .masks .now) _ (t .0) (t .1)))
 
 enum-known-read-2 : tie.Need-enum-known-read-2
 enum-known-read-2 c = search needs
@@ -68,21 +68,21 @@ returns c =
     let s = c .before .before .before .before .before .before .before .before .before in
     let r = c .before .before .before in
     let t = tables-told (s .args .h) _ _ _ _ (r .before .before .before .row-count .ensures) (r .before .before .row-count2 .ensures) (combinations-are _ (s .pre .wires)) _ (r .read-answer .ensures) (c .before .enum-told .given .1) in
-    c .judge-tables .ensures ∙ tables-judged (s .args .h) (s .args .rules .now) _ (t .0) (t .1) (t .2)
+    c .judge-tables .ensures ∙ tables-judged (s .args .h) (s .args .masks .now) _ (t .0) (t .1) (t .2)
 
 returns-2 : tie.Need-returns-2
 returns-2 c =
     let s = c .before .before .before .before .before .before .before .before .before .before in
     let r = c .before .before .before .before in
     let t = walk-told (s .args .h) _ _ _ _ (r .before .before .before .row-count .ensures) (r .before .before .row-count2 .ensures) (combinations-are _ (s .pre .wires)) _ (r .read-answer .ensures) _ (c .before .before .read .given .1) in
-    c .judge-walk .ensures ∙ ap (walkIn (s .args .h) (s .args .rules .now) (s .args .sheet .now)) (t .2) ∙ walk-judged (s .args .h) (s .args .rules .now) _ (t .0) (t .1)
+    c .judge-walk .ensures ∙ ap (walkIn (s .args .h) (s .args .masks .now) (s .args .sheet .now)) (t .2) ∙ walk-judged (s .args .h) (s .args .masks .now) _ (t .0) (t .1)
 
 returns-3 : tie.Need-returns-3
 returns-3 c =
     let s = c .before .before .before .before .before .before .before .before .before .before in
     let r = c .before .before .before .before in
     let t = refused-told (s .args .h) _ _ _ _ (r .before .before .before .row-count .ensures) (r .before .before .row-count2 .ensures) (combinations-are _ (s .pre .wires)) _ (r .read-answer .ensures) _ (c .before .before .read2 .given .1) in
-    c .refused-answer .ensures ∙ refused-judged (s .args .h) (s .args .rules .now) _ _ t
+    c .refused-answer .ensures ∙ refused-judged (s .args .h) (s .args .masks .now) _ _ t
 
 pub check-answer-spec : {M : Type 1} → statement M
 check-answer-spec =

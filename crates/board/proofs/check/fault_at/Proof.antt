@@ -7,10 +7,10 @@ use Prim.Native.Nat.{ℕ, _+_, _^_, _<_}
 use native.Mathlib.Omega.{arith}
 use borrow.Author.Needs.{needs}
 use lib.Count.{ones}
-use lib.ListN.{getD, take}
+use lib.ListN.{getD}
 use Rattle.wires.specs.Wires.{shown}
 use Rattle.sheet.specs.declared.JobHead.{JobHead}
-use Rattle.board.specs.JobBoard.{breaksb}
+use Rattle.board.specs.JobBoard.{headBoard}
 use Rattle.board.specs.Places.{faultIn, TablesIn}
 use Rattle.board.proofs.check.fault_at.Statement.{statement}
 use Rattle.board.proofs.check.fault_at.Tie as tie
@@ -21,10 +21,10 @@ bit-b : (h : JobHead) (answer : List ℕ) → TablesIn h answer → (countA ofB 
 bit-b h answer t countA ofB e l = rw e (t .bitsB ofB l)
 
 -- the test of the two entries
-is-fault : (h : JobHead) (rules answer : List ℕ) (a ofA countA ofB : ℕ) (r : Bool)
-    → r ≡ breaksb (h .wires) (take (h .rules) rules) a (getD answer (2 + ofA) 0) (getD answer (4 + countA + ofB) 0)
-    → ofA ≡ shown (h .wires) (h .«sees_a») a → countA ≡ 2 ^ ones (h .«sees_a») → ofB ≡ shown (h .wires) (h .«sees_b») a → r ≡ faultIn h rules answer a
-is-fault h rules answer a ofA countA ofB r e p q s = rw (← p, ← q, ← s) e
+is-fault : (h : JobHead) (masks answer : List ℕ) (a ofA countA ofB : ℕ) (r : Bool)
+    → r ≡ headBoard h masks .breaks a (getD answer (2 + ofA) 0) (getD answer (4 + countA + ofB) 0)
+    → ofA ≡ shown (h .wires) (h .«sees_a») a → countA ≡ 2 ^ ones (h .«sees_a») → ofB ≡ shown (h .wires) (h .«sees_b») a → r ≡ faultIn h masks answer a
+is-fault h masks answer a ofA countA ofB r e p q s = rw (← p, ← q, ← s) e
 
 cast-row-shown : tie.Need-cast-row-shown
 cast-row-shown c = search needs
@@ -84,7 +84,7 @@ returns : tie.Need-returns
 returns c =
     let p = c .before .before .before in
     let s = p .before .before .before .before .before .before .before in
-    is-fault (s .args .h) (s .args .rules .now) (s .args .answer .now) _ _ _ _ _ (c .test .ensures)
+    is-fault (s .args .h) (s .args .masks .now) (s .args .answer .now) _ _ _ _ _ (c .test .ensures)
     (p .before .before .before .row-shown .ensures .0 _ (s .pre .0 .maskA))
     (p .before .before .row-count .ensures)
     (p .row-shown2 .ensures .0 _ (s .pre .0 .maskB))

@@ -15,11 +15,11 @@ use Rattle.board.specs.JobBoard.{headBoard}
 use Rattle.board.proofs.check.judge_tables.Statement.{statement}
 use Rattle.board.proofs.check.judge_tables.Tie as tie
 
-module _ (h : JobHead) (rules : List ℕ) (m low : ℕ) (same : m ≡ low) (r : Outcome) where
-  broken : m < 2 ^ h .wires → r ≡ refusal 10 2 m → r ≡ tablesAt (headBoard h rules) low
+module _ (h : JobHead) (masks : List ℕ) (m low : ℕ) (same : m ≡ low) (r : Outcome) where
+  broken : m < 2 ^ h .wires → r ≡ refusal 10 2 m → r ≡ tablesAt (headBoard h masks) low
   broken l e = rw (← same, lt-ltb m (2 ^ h .wires) l) e
 
-  sound : 2 ^ h .wires ≤ m → r ≡ success 20 0 → r ≡ tablesAt (headBoard h rules) low
+  sound : 2 ^ h .wires ≤ m → r ≡ success 20 0 → r ≡ tablesAt (headBoard h masks) low
   sound l e = rw (← same, le-ltb m (2 ^ h .wires) l) e
 
 lowest-fault-requires : tie.Need-lowest-fault-requires
@@ -40,12 +40,12 @@ succeeded-requires c κs = search needs
 returns : tie.Need-returns
 returns c =
     let s = c .before .before .before .before .before .before in
-    broken (s .args .h) (s .args .rules .now) _ _ (c .before .before .before .lowest-fault .ensures) _ (omega (arith, pow-mono (s .pre .0 .wires))) (c .refused .ensures)
+    broken (s .args .h) (s .args .masks .now) _ _ (c .before .before .before .lowest-fault .ensures) _ (omega (arith, pow-mono (s .pre .0 .wires))) (c .refused .ensures)
 
 returns-2 : tie.Need-returns-2
 returns-2 c =
     let s = c .before .before .before .before .before .before in
-    sound (s .args .h) (s .args .rules .now) _ _ (c .before .before .before .lowest-fault .ensures) _ (omega (arith, pow-mono (s .pre .0 .wires))) (c .succeeded .ensures)
+    sound (s .args .h) (s .args .masks .now) _ _ (c .before .before .before .lowest-fault .ensures) _ (omega (arith, pow-mono (s .pre .0 .wires))) (c .succeeded .ensures)
 
 pub judge-tables-spec : {M : Type 1} → statement M
 judge-tables-spec =

@@ -13,14 +13,14 @@ use Rattle.board.proofs.check.lowest_bad_step.Statement.{statement}
 use Rattle.board.proofs.check.lowest_bad_step.Tie as tie
 
 -- the step of an entry does not hold
-abbrev bad : JobHead → (rules s : List ℕ) → ℕ → ℕ → Bool
-bad h rules s count i = not (stepIn h rules s count i)
+abbrev bad : JobHead → (masks s : List ℕ) → ℕ → ℕ → Bool
+bad h masks s count i = not (stepIn h masks s count i)
 
 abbrev Inv-loop : tie.InvT-loop
-Inv-loop h rules answer count i₀ i = (i ≤ count) × Left (bad h rules answer count) count i
+Inv-loop h masks answer count i₀ i = (i ≤ count) × Left (bad h masks answer count) count i
 
 abbrev μ-loop : tie.MeasureT-loop
-μ-loop h rules answer count i₀ i = count - i
+μ-loop h masks answer count i₀ i = count - i
 
 loop-holds : tie.Need-loop-holds Inv-loop μ-loop
 loop-holds c = (omega arith, rw sub-zero)

@@ -12,10 +12,10 @@ use Rattle.board.proofs.check.lowest_fault.Statement.{statement}
 use Rattle.board.proofs.check.lowest_fault.Tie as tie
 
 abbrev Inv-loop : tie.InvT-loop
-Inv-loop h rules answer combinations a₀ a = (a ≤ 2 ^ h .wires) × Left (faultIn h rules answer) (2 ^ h .wires) a
+Inv-loop h masks answer combinations a₀ a = (a ≤ 2 ^ h .wires) × Left (faultIn h masks answer) (2 ^ h .wires) a
 
 abbrev μ-loop : tie.MeasureT-loop
-μ-loop h rules answer combinations a₀ a = combinations - a
+μ-loop h masks answer combinations a₀ a = combinations - a
 
 shl-combinations : tie.Need-shl-combinations Inv-loop μ-loop
 shl-combinations c = search needs

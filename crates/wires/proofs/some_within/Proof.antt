@@ -1,5 +1,5 @@
--- `widener::some_within` meets its contract. Invariant: r contains one of the rules exactly where it contains one of those from i on. The measure
--- is the rules left. Assumes nothing.
+-- `wires::some_within` meets its contract. Invariant: r contains one of the sets exactly where it contains one of those from i on. The measure
+-- is the sets left. Assumes nothing.
 use mathlib.Core.Path.{_≡_, refl, sym, _∙_}
 use mathlib.Core.Bool.{Bool, true, false}
 use mathlib.Core.List.{List}
@@ -7,31 +7,31 @@ use Prim.Native.Nat.{ℕ, _+_, _-_, _<_, _≤_}
 use native.Mathlib.Omega.{arith}
 use borrow.Author.Needs.{needs}
 use lib.ListN.{length, getD, take, drop}
-use Rattle.widener.specs.Asks.{containsb, someWithin}
-use Rattle.widener.proofs.Within.{some-turn, some-found, some-end}
-use Rattle.widener.proofs.some_within.Statement.{statement}
-use Rattle.widener.proofs.some_within.Tie as tie
+use Rattle.wires.specs.Terms.{containsb, someWithin}
+use Rattle.wires.proofs.Sets.{some-turn, some-found, some-end}
+use Rattle.wires.proofs.some_within.Statement.{statement}
+use Rattle.wires.proofs.some_within.Tie as tie
 
-record Inv (rules : List ℕ) (count r i : ℕ) : Type 0 where
+record Inv (sets : List ℕ) (count r i : ℕ) : Type 0 where
   within : i ≤ count
-  left : someWithin (take count rules) r ≡ someWithin (drop i (take count rules)) r
+  left : someWithin (take count sets) r ≡ someWithin (drop i (take count sets)) r
 
 abbrev Inv-loop : tie.InvT-loop
-Inv-loop rules count r i₀ i = Inv rules count r i
+Inv-loop sets count r i₀ i = Inv sets count r i
 
 abbrev μ-loop : tie.MeasureT-loop
-μ-loop rules count r i₀ i = count - i
+μ-loop sets count r i₀ i = count - i
 
--- rule i is not contained, rule i is contained, and no rule is left
-module _ (rules : List ℕ) (count r i : ℕ) (v : Inv rules count r i) (long : count ≤ length rules) where
-  step : i < count → (b : Bool) → b ≡ containsb r (getD rules i 0) → b ≡ false → someWithin (take count rules) r ≡ someWithin (drop (i + 1) (take count rules)) r
-  step l b m e = v .left ∙ some-turn r rules count i long l (sym m ∙ e)
+-- set i is not contained, set i is contained, and no set is left
+module _ (sets : List ℕ) (count r i : ℕ) (v : Inv sets count r i) (long : count ≤ length sets) where
+  step : i < count → (b : Bool) → b ≡ containsb r (getD sets i 0) → b ≡ false → someWithin (take count sets) r ≡ someWithin (drop (i + 1) (take count sets)) r
+  step l b m e = v .left ∙ some-turn r sets count i long l (sym m ∙ e)
 
-  found : i < count → (b : Bool) → b ≡ containsb r (getD rules i 0) → b ≡ true → true ≡ someWithin (take count rules) r
-  found l b m e = sym (v .left ∙ some-found r rules count i long l (sym m ∙ e))
+  found : i < count → (b : Bool) → b ≡ containsb r (getD sets i 0) → b ≡ true → true ≡ someWithin (take count sets) r
+  found l b m e = sym (v .left ∙ some-found r sets count i long l (sym m ∙ e))
 
-  ended : count ≤ i → false ≡ someWithin (take count rules) r
-  ended l = sym (v .left ∙ rw same (some-end r rules count long))
+  ended : count ≤ i → false ≡ someWithin (take count sets) r
+  ended l = sym (v .left ∙ rw same (some-end r sets count long))
     where
       same : i ≡ count
       same = omega (arith, v .within)
