@@ -4,8 +4,9 @@
 #   make build/ormsvelg               the command: ormsvelg read, solve, check, widen and write for files, in words
 #   make read JOB=FILE                what the command says of a job sheet
 #   make check JOB=FILE ANSWER=FILE   what the command says of an answer sheet for a job sheet
+#   make run, read, check FORM=2      the same for a job sheet of form two
 #   make install PREFIX=/usr/local    the command, its manual page, the library, its header and its pkg-config file
-#   make host-test                    the C tests over the static library, the command's, the bench program's and the installation's
+#   make host-test                    the C tests over the static library, the command's, the bench programs' and the installation's
 #   make compare SEED=1 COUNT=50000   random cases, so many of each call, against the independent second program
 #   make speed                        the library's times against plain C++, native
 
@@ -13,10 +14,14 @@ SEED ?= 1
 # Without a count each call has its own.
 COUNT ?=
 
-VERSION = 0.2.0
+# The form of the job sheets.
+FORM ?= 1
+
+VERSION = 0.3.0
 PREFIX ?= /usr/local
 LIBRARY = target/staticlib/libormsvelg.a
 BENCH = target/bin/bench
+BENCH2 = target/bin/bench2
 C = -std=c11 -Wall -Wextra -Werror
 # Loops are aligned, so that no time hangs on where the linker happens to put a short one.
 CXXFLAGS = -std=c++20 -Wall -Wextra -Werror -O3 -falign-functions=64 -falign-loops=64
@@ -33,8 +38,8 @@ $(LIBRARY): $(PROVED)
 	rt staticlib ormsvelg
 
 # What rt says goes to standard error, so that a run prints the answer alone.
-$(BENCH): $(PROVED)
-	@rt check bench >&2
+$(BENCH) $(BENCH2): target/bin/%: $(PROVED)
+	@rt check $* >&2
 	@touch $@
 
 COMMAND = host/ormsvelg.c host/describe.h host/save.h host/sheet.h host/words.h include/ormsvelg.h Makefile tools/x86 $(LIBRARY)
@@ -47,17 +52,20 @@ build/ormsvelg-sanitized: $(COMMAND)
 	@mkdir -p build
 	$(HOST) $(SANITIZED) -DVERSION='"$(VERSION)"' -o $@ host/ormsvelg.c $(LIBRARY)
 
-run: $(BENCH)
-	@test -n "$(JOB)" || { echo "usage: make run JOB=FILE"; exit 2; }
-	@tools/x86 run $(BENCH) < "$(JOB)"
+# The bench program of the form: nothing for a form that is neither 1 nor 2.
+RUN = $(BENCH$(filter-out 1,$(FORM)))
+
+run: $(RUN)
+	@test -n "$(JOB)" && test -n "$(RUN)" || { echo "usage: make run JOB=FILE [FORM=2]"; exit 2; }
+	@tools/x86 run $(RUN) < "$(JOB)"
 
 read: build/ormsvelg
-	@test -n "$(JOB)" || { echo "usage: make read JOB=FILE"; exit 2; }
-	@tools/x86 run build/ormsvelg read "$(JOB)" || [ $$? -eq 1 ]
+	@test -n "$(JOB)" || { echo "usage: make read JOB=FILE [FORM=2]"; exit 2; }
+	@tools/x86 run build/ormsvelg read --form "$(FORM)" "$(JOB)" || [ $$? -eq 1 ]
 
 check: build/ormsvelg
-	@test -n "$(JOB)" && test -n "$(ANSWER)" || { echo "usage: make check JOB=FILE ANSWER=FILE"; exit 2; }
-	@tools/x86 run build/ormsvelg check "$(JOB)" "$(ANSWER)" || [ $$? -eq 1 ]
+	@test -n "$(JOB)" && test -n "$(ANSWER)" || { echo "usage: make check JOB=FILE ANSWER=FILE [FORM=2]"; exit 2; }
+	@tools/x86 run build/ormsvelg check --form "$(FORM)" "$(JOB)" "$(ANSWER)" || [ $$? -eq 1 ]
 
 TO = $(DESTDIR)$(PREFIX)
 
@@ -70,21 +78,25 @@ install: build/ormsvelg
 	sed '/^#/d; s|@PREFIX@|$(PREFIX)|; s|@VERSION@|$(VERSION)|' host/ormsvelg.pc.in >build/ormsvelg.pc
 	install -m 644 build/ormsvelg.pc "$(TO)/lib/pkgconfig/ormsvelg.pc"
 
-build/test build/test_solve build/test_widen build/test_write: build/%: host/%.c host/lent.h include/ormsvelg.h tools/x86 $(LIBRARY)
+TESTS = build/test build/test_two build/test_solve build/test_widen build/test_write
+TESTED = host/guarded.h host/lent.h host/listed.h include/ormsvelg.h tools/x86 $(LIBRARY)
+
+$(TESTS): build/%: host/%.c $(TESTED)
 	@mkdir -p build
 	$(HOST) -o $@ host/$*.c $(LIBRARY)
 
-build/test-sanitized build/test_solve-sanitized build/test_widen-sanitized build/test_write-sanitized: build/%-sanitized: host/%.c host/lent.h include/ormsvelg.h tools/x86 $(LIBRARY)
+$(TESTS:=-sanitized): build/%-sanitized: host/%.c $(TESTED)
 	@mkdir -p build
 	$(HOST) $(SANITIZED) -o $@ host/$*.c $(LIBRARY)
 
-host-test: build/test build/test_solve build/test_widen build/test_write build/ormsvelg $(BENCH)
+host-test: $(TESTS) build/ormsvelg $(BENCH) $(BENCH2)
 	tools/x86 run build/test
+	tools/x86 run build/test_two
 	tools/x86 run build/test_solve
 	tools/x86 run build/test_widen
 	tools/x86 run build/test_write
 	host/test_command.sh build/ormsvelg
-	host/test_bench.sh $(BENCH) build/ormsvelg
+	host/test_bench.sh $(BENCH) $(BENCH2) build/ormsvelg
 	host/test_install.sh
 ifeq ($(shell uname -m),x86_64)
 	$(MAKE) --no-print-directory host-test-sanitized
@@ -92,8 +104,9 @@ else
 	@echo "skipped: sanitizers run on x86-64 alone"
 endif
 
-host-test-sanitized: build/test-sanitized build/test_solve-sanitized build/test_widen-sanitized build/test_write-sanitized build/ormsvelg-sanitized
+host-test-sanitized: $(TESTS:=-sanitized) build/ormsvelg-sanitized
 	tools/x86 run build/test-sanitized
+	tools/x86 run build/test_two-sanitized
 	tools/x86 run build/test_solve-sanitized
 	tools/x86 run build/test_widen-sanitized
 	tools/x86 run build/test_write-sanitized

@@ -7,10 +7,10 @@
 #include <stdio.h>
 #include <string.h>
 
+#include "listed.h"
 #include "ormsvelg.h"
 
 #define ROOM 9000
-#define SHEET(...) (const uint8_t[]){__VA_ARGS__}, sizeof((uint8_t[]){__VA_ARGS__})
 
 static unsigned checks, failures;
 static uint8_t lent[ROOM];

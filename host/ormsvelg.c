@@ -17,36 +17,42 @@
 
 enum act { READ, SOLVE, CHECK, WIDEN, WRITE };
 
+/* The job sheets of a verb are of form 1, or of any form up to `forms`. */
 struct verb {
     const char *name, *wants;
-    int files, writes;
+    int files, writes, forms;
 };
 
 static const struct verb verbs[] = {
-    [READ] = {"read", "JOB", 1, 0},
-    [SOLVE] = {"solve", "JOB [-o ANSWER]", 1, 1},
-    [CHECK] = {"check", "JOB ANSWER", 2, 0},
-    [WIDEN] = {"widen", "P Q ANSWER [-o OUT]", 3, 1},
-    [WRITE] = {"write", "TEXT [-o JOB]", 1, 1},
+    [READ] = {"read", "[--form 2] JOB", 1, 0, 2},
+    [SOLVE] = {"solve", "[--form 2] JOB [-o ANSWER]", 1, 1, 2},
+    [CHECK] = {"check", "[--form 2] JOB ANSWER", 2, 0, 2},
+    [WIDEN] = {"widen", "[--form 2] P Q ANSWER [-o OUT]", 3, 1, 2},
+    [WRITE] = {"write", "TEXT [-o JOB]", 1, 1, 1},
 };
 
 #define VERBS ((int)(sizeof verbs / sizeof verbs[0]))
 
-/* What the words of the command ask for: an act, the files it reads, and where the sheet it makes goes, or null. */
+/* What the words of the command ask for: an act, the form of its job sheets, or 0 while none is named, the files it reads,
+ * and where the sheet it makes goes, or null. */
 struct request {
-    int act, files;
+    int act, form, files;
     const char *paths[MOST_SHEETS], *target;
 };
 
 static const char help[] =
     "ormsvelg: whether two cells of a board can be filled so that every rule holds in every state of the wires.\n"
     "\n"
-    "  ormsvelg read JOB                     says what a job sheet holds\n"
-    "  ormsvelg solve JOB [-o ANSWER]        gives the first fitting pair of tables, or a walk that shows there is none\n"
-    "  ormsvelg check JOB ANSWER             checks an answer sheet for a job\n"
-    "  ormsvelg widen P Q ANSWER [-o OUT]    widens tables for job P to job Q, which asks no more\n"
-    "  ormsvelg write TEXT [-o JOB]          makes a job sheet from a readable text\n"
+    "  ormsvelg read [--form 2] JOB                     says what a job sheet holds\n"
+    "  ormsvelg solve [--form 2] JOB [-o ANSWER]        gives the first fitting pair of tables, or a walk if there is none\n"
+    "  ormsvelg check [--form 2] JOB ANSWER             checks an answer sheet for a job\n"
+    "  ormsvelg widen [--form 2] P Q ANSWER [-o OUT]    widens tables for job P to job Q, which asks no more\n"
+    "  ormsvelg write TEXT [-o JOB]                     makes a job sheet of form 1 from a readable text\n"
     "  ormsvelg --help | --version\n"
+    "\n"
+    "Job sheets are of form 1, or of form 2 with --form 2. Form 2 has excuses after the rules, each a set of terms of the\n"
+    "wires. Where all terms of an excuse hold, the wires are in a state that the board cannot make: no rule has to hold\n"
+    "there, and no step of a walk holds by it.\n"
     "\n"
     "A sheet is a file of bytes; one file may be -, standard input. With -o the sheet that is made is put in a file, whole\n"
     "or not at all. A table has a digit for each row, rows rising; a row is numbered by the wires the cell sees, lowest\n"
@@ -77,6 +83,21 @@ static int find_act(const char *name, struct request *request)
         if (strcmp(name, verbs[request->act].name) == 0)
             return 1;
     return wrong_use("unknown command: ", name);
+}
+
+/* Takes --form and the number after it. Gives how many words that is, or 0 for a wrong use. */
+static int take_form(int left, char **words, struct request *request)
+{
+    if (request->form != 0)
+        return wrong_use("--form is given twice", "");
+    if (left < 2)
+        return wrong_use("--form wants 1 or 2", "");
+    if (strcmp(words[1], "1") != 0 && strcmp(words[1], "2") != 0)
+        return wrong_use("--form wants 1 or 2, not ", words[1]);
+    request->form = words[1][0] - '0';
+    if (request->form > verbs[request->act].forms)
+        return wrong_use("--form 2 has no meaning for ", verbs[request->act].name);
+    return 2;
 }
 
 /* Takes -o and the name after it. Gives how many words that is, or 0 for a wrong use. */
@@ -118,12 +139,16 @@ static int take_words(int count, char **words, struct request *request)
     while (at < count) {
         if (strcmp(words[at], "-o") == 0)
             taken = take_target(count - at, words + at, request);
+        else if (strcmp(words[at], "--form") == 0)
+            taken = take_form(count - at, words + at, request);
         else
             taken = take_path(words[at], request);
         if (taken == 0)
             return 0;
         at += taken;
     }
+    if (request->form == 0)
+        request->form = 1;
     if (request->files == verbs[request->act].files)
         return 1;
     fprintf(stderr, "ormsvelg: a file is missing\nuse: ormsvelg %s %s\n", words[0], verbs[request->act].wants);
@@ -151,29 +176,43 @@ struct bench {
     uint8_t out[ORMSVELG_LONGEST_ANSWER];
 };
 
-static uint64_t call(enum act act, struct bench *bench)
+/* The library's calls for job sheets of one form. */
+struct calls {
+    uint64_t (*read)(const uint8_t *, size_t);
+    uint64_t (*solve)(const uint8_t *, size_t, uint8_t *, size_t);
+    uint64_t (*check)(const uint8_t *, size_t, const uint8_t *, size_t);
+    uint64_t (*widen)(const uint8_t *, size_t, const uint8_t *, size_t, const uint8_t *, size_t, uint8_t *, size_t);
+};
+
+static const struct calls calls_of_form[] = {
+    [1] = {ormsvelg_read, ormsvelg_solve, ormsvelg_check, ormsvelg_widen},
+    [2] = {ormsvelg_read_two, ormsvelg_solve_two, ormsvelg_check_two, ormsvelg_widen_two},
+};
+
+static uint64_t call(const struct request *request, struct bench *bench)
 {
+    const struct calls *calls = &calls_of_form[request->form];
     const struct sheet *job = &bench->sheets[0], *second = &bench->sheets[1], *third = &bench->sheets[2];
-    switch (act) {
-    case READ: return ormsvelg_read(job->bytes, job->length);
-    case SOLVE: return ormsvelg_solve(job->bytes, job->length, bench->out, sizeof bench->out);
-    case CHECK: return ormsvelg_check(job->bytes, job->length, second->bytes, second->length);
+    switch (request->act) {
+    case READ: return calls->read(job->bytes, job->length);
+    case SOLVE: return calls->solve(job->bytes, job->length, bench->out, sizeof bench->out);
+    case CHECK: return calls->check(job->bytes, job->length, second->bytes, second->length);
     default:
-        return ormsvelg_widen(job->bytes, job->length, second->bytes, second->length, third->bytes, third->length,
-                              bench->out, sizeof bench->out);
+        return calls->widen(job->bytes, job->length, second->bytes, second->length, third->bytes, third->length,
+                            bench->out, sizeof bench->out);
     }
 }
 
 /* Says the outcome and gives the exit status. */
-static int tell(uint64_t outcome, enum act act, const struct bench *bench)
+static int tell(uint64_t outcome, const struct request *request, const struct bench *bench)
 {
     const uint8_t *job = bench->sheets[0].bytes;
-    const uint8_t *handed_in = bench->sheets[act == WIDEN ? 2 : 1].bytes;
-    const uint8_t *answer = act == CHECK ? handed_in : bench->out;
+    const uint8_t *handed_in = bench->sheets[request->act == WIDEN ? 2 : 1].bytes;
+    const uint8_t *answer = request->act == CHECK ? handed_in : bench->out;
     switch (ormsvelg_code(outcome)) {
     case ORMSVELG_ACCEPTED:
         puts("accepted");
-        show_job(job);
+        show_job(job, request->form);
         return 0;
     case ORMSVELG_TABLES: show_tables(answer); return 0;
     case ORMSVELG_WALK: show_walk(job, answer); return 0;
@@ -189,11 +228,11 @@ static int serve_sheets(const struct request *request)
         if (!load(request->paths[i], sheet->bytes, sizeof sheet->bytes, &sheet->length))
             return NO_SHEET;
     }
-    uint64_t outcome = call((enum act)request->act, &bench);
+    uint64_t outcome = call(request, &bench);
     if (request->target != NULL && ormsvelg_written(outcome) > 0
         && !save(request->target, bench.out, ormsvelg_written(outcome)))
         return NO_SHEET;
-    return tell(outcome, (enum act)request->act, &bench);
+    return tell(outcome, request, &bench);
 }
 
 /* Writes a description's sheet, puts it where it is wanted and says what it holds. Any sheet has room. */
@@ -209,7 +248,7 @@ static int serve_description(const struct request *request, const struct text *t
     if (request->target != NULL && !save(request->target, sheet, ormsvelg_written(outcome)))
         return NO_SHEET;
     printf("sheet of %u bytes\n", (unsigned)ormsvelg_written(outcome));
-    show_job(sheet);
+    show_job(sheet, request->form);
     return 0;
 }
 

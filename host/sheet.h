@@ -1,5 +1,5 @@
 /* host/sheet.h: what the command takes in: a file's bytes, a sheet's numbers, and a table as digits.
- * The name `-` is standard input. A file is never read further than the byte that decides its outcome.
+ * The name `-` is standard input. A file is never read further than one byte beyond the longest sheet.
  */
 #ifndef HOST_SHEET_H
 #define HOST_SHEET_H
@@ -13,9 +13,9 @@
 /* Exit status: success of the call 0, a refusal 1, and this for a wrong use or a file that fails. */
 #define NO_SHEET 2
 
-/* One byte beyond the longest sheet decides the outcome of any longer file. */
+/* The longest sheet is a job of form two. One byte beyond it decides the outcome of any longer file. */
 struct sheet {
-    uint8_t bytes[ORMSVELG_LONGEST_ANSWER + 1];
+    uint8_t bytes[ORMSVELG_LONGEST_JOB_TWO + 1];
     size_t length;
 };
 

@@ -1,185 +1,13 @@
-/* host/test.c: the reader's and the checker's outcomes through the C face, over the static library.
+/* host/test.c: the reader's and the checker's outcomes through the C face, over the static library, for sheets of form one.
  * Every expected number is written by hand from the papers' rules and their list of sheets; none comes from a
  * program. Codes are written as the papers' numbers, so that the header's names are tested too.
- * Each sheet lies read-only and right before memory that cannot be touched: a call that writes, or reads
- * beyond the length it was given, ends the program.
  */
-#define _DEFAULT_SOURCE
-#include <inttypes.h>
-#include <stdio.h>
-#include <stdlib.h>
-#include <string.h>
-#include <sys/mman.h>
+#include "guarded.h"
 
-#include "ormsvelg.h"
-
-/* A multiple of every page size in use. */
-#define ROOM 65536
 #define LONGEST 7457
 #define LONGEST_ANSWER 8190
-#define MOST_SHOWN 20
 
-static uint8_t *job_room, *answer_room;
 static uint8_t longest[ROOM], longest_walk[ROOM];
-static unsigned checks, failures;
-
-static void judge(const char *name, size_t length, uint64_t got, uint64_t wanted)
-{
-    checks++;
-    if (got == wanted)
-        return;
-    if (++failures <= MOST_SHOWN)
-        printf("FAILED %s (%zu bytes): outcome %016" PRIx64 ", wanted %016" PRIx64 "\n", name, length, got, wanted);
-}
-
-static void need(int done, const char *what)
-{
-    if (done)
-        return;
-    perror(what);
-    exit(1);
-}
-
-/* Room for one sheet, with memory behind it that cannot be touched. */
-static uint8_t *guarded_room(void)
-{
-    uint8_t *room = mmap(NULL, 2 * ROOM, PROT_READ | PROT_WRITE, MAP_PRIVATE | MAP_ANONYMOUS, -1, 0);
-    need(room != MAP_FAILED && mprotect(room + ROOM, ROOM, PROT_NONE) == 0, "host: guarded memory");
-    return room;
-}
-
-/* The sheet at the end of a room that can only be read, until it is given back. */
-static const uint8_t *lend(uint8_t *room, const uint8_t *sheet, size_t length)
-{
-    uint8_t *lent = room + ROOM - length;
-    memcpy(lent, sheet, length);
-    need(mprotect(room, ROOM, PROT_READ) == 0, "host: lending a sheet");
-    return lent;
-}
-
-static void give_back(uint8_t *room)
-{
-    need(mprotect(room, ROOM, PROT_READ | PROT_WRITE) == 0, "host: giving a sheet back");
-}
-
-static uint64_t read_guarded(const uint8_t *sheet, size_t length)
-{
-    uint64_t outcome = ormsvelg_read(lend(job_room, sheet, length), length);
-    give_back(job_room);
-    return outcome;
-}
-
-static uint64_t check_guarded(const uint8_t *job, size_t job_length, const uint8_t *answer, size_t answer_length)
-{
-    const uint8_t *lent_job = lend(job_room, job, job_length);
-    const uint8_t *lent_answer = lend(answer_room, answer, answer_length);
-    uint64_t outcome = ormsvelg_check(lent_job, job_length, lent_answer, answer_length);
-    give_back(job_room);
-    give_back(answer_room);
-    return outcome;
-}
-
-static void accepts(const char *name, const uint8_t *sheet, size_t length)
-{
-    judge(name, length, read_guarded(sheet, length), 0);
-}
-
-/* Refusals of the reader name sheet 1 and write 0 bytes. */
-static void refuses(const char *name, const uint8_t *sheet, size_t length, uint64_t code, uint64_t place)
-{
-    judge(name, length, read_guarded(sheet, length), code | 1 << 8 | place << 16);
-}
-
-static void prefixes(const char *name, const uint8_t *sheet, size_t length)
-{
-    for (size_t part = 0; part < length; part++)
-        refuses(name, sheet, part, 1, part);
-}
-
-/* Successes of the checker, 20 and 21, have sheet and place 0 and write 0 bytes. */
-static void confirms(const char *name, const uint8_t *job, size_t job_length, const uint8_t *answer,
-                     size_t answer_length, uint64_t code)
-{
-    judge(name, answer_length, check_guarded(job, job_length, answer, answer_length), code);
-}
-
-/* Refusals of an answer name sheet 2 and write 0 bytes. */
-static void rejects(const char *name, const uint8_t *job, size_t job_length, const uint8_t *answer,
-                    size_t answer_length, uint64_t code, uint64_t place)
-{
-    judge(name, answer_length, check_guarded(job, job_length, answer, answer_length), code | 2 << 8 | place << 16);
-}
-
-static void answer_prefixes(const char *name, const uint8_t *job, size_t job_length, const uint8_t *answer,
-                            size_t answer_length)
-{
-    for (size_t part = 0; part < answer_length; part++)
-        rejects(name, job, job_length, answer, part, 7, part);
-}
-
-static void group(const char *name)
-{
-    static unsigned failures_before;
-    printf("%s: %s\n", name, failures == failures_before ? "as written" : "FAILED");
-    fflush(stdout);
-    failures_before = failures;
-}
-
-/* The bytes of a sheet that is written out in place, and their number. */
-#define SHEET(...) (const uint8_t[]){__VA_ARGS__}, sizeof((const uint8_t[]){__VA_ARGS__})
-
-/* Appends a section of one-byte entries 0 to count - 1 after its count, and gives the end. */
-static size_t rising_section(uint8_t *sheet, size_t at, unsigned count)
-{
-    sheet[at++] = (uint8_t)count;
-    for (unsigned entry = 0; entry < count; entry++)
-        sheet[at++] = (uint8_t)entry;
-    return at;
-}
-
-/* Appends a rule count, low byte first, and gives the end. */
-static size_t rule_count(uint8_t *sheet, size_t at, unsigned count)
-{
-    sheet[at++] = (uint8_t)(count & 0xFF);
-    sheet[at++] = (uint8_t)(count >> 8);
-    return at;
-}
-
-/* A sheet with every count as given and all entries rising from 0; gives its length. Its sections begin at
- * 0, 1 + wires, 2 + wires + seen_a, 3 + wires + seen_a + seen_b; its first rule two bytes later. */
-static size_t rising_sheet(uint8_t *sheet, unsigned wires, unsigned seen_a, unsigned seen_b, unsigned rules, unsigned terms)
-{
-    size_t at = rising_section(sheet, 0, wires);
-    at = rising_section(sheet, at, seen_a);
-    at = rising_section(sheet, at, seen_b);
-    at = rule_count(sheet, at, rules);
-    for (unsigned rule = 0; rule < rules; rule++)
-        at = rising_section(sheet, at, terms);
-    return at;
-}
-
-/* The sheets of the papers, as listed. With no wires A's terms are 0 and 1, B's 2 and 3; with one wire the
- * wire's are 0 and 1, A's 2 and 3, B's 4 and 5; with two wires A's are 4 and 5, B's 6 and 7. */
-#define J1 0, 0, 0, 0, 0
-#define J2 1, 4, 1, 0, 1, 0, 2, 0, 2, 2, 4, 2, 3, 5
-#define J3 2, 4, 7, 1, 0, 1, 1, 6, 0, 4, 0, 3, 4, 6, 4, 1, 2, 4, 6, 3, 0, 2, 5, 3, 0, 2, 7, 3, 1, 3, 5, 3, 1, 3, 7
-#define J4 0, 0, 0, 1, 0, 0
-/* No wires, two rules: A or B, 0 and 2; not A or not B, 1 and 3. */
-#define J5 0, 0, 0, 2, 0, 2, 0, 2, 2, 1, 3
-/* B equals the wire, in two rules: the wire or not B, 0 and 5; not the wire or B, 1 and 4. */
-#define EQUALS_WIRE 2, 0, 2, 0, 5, 2, 1, 4
-/* One wire, on pin 4; A sees nothing, B the wire. */
-#define J6 1, 4, 0, 1, 0, EQUALS_WIRE
-/* J6 with B seeing nothing. */
-#define J7 1, 4, 0, 0, EQUALS_WIRE
-/* J6 with A seeing the wire too. */
-#define J6_WIDE 1, 4, 1, 0, 1, 0, EQUALS_WIRE
-/* Two wires, A sees the first, B the second; A equals B exactly when the wires are equal. So of the two wires,
- * A and B an even number are 1; each of the 8 ways to an odd number is forbidden by one rule of four terms, in
- * which what is 1 stands negated. */
-#define PARITY 2, 4, 7, 1, 0, 1, 1, 8, 0, \
-    4, 1, 2, 4, 6, 4, 0, 3, 4, 6, 4, 0, 2, 5, 6, 4, 0, 2, 4, 7, \
-    4, 0, 3, 5, 7, 4, 1, 2, 5, 7, 4, 1, 3, 4, 7, 4, 1, 3, 5, 6
 
 static void listed_sheets(void)
 {
@@ -335,25 +163,6 @@ static void first_faults(void)
     refuses("a rule fewer, 5 terms left over", SHEET(0, 0, 0, 1, 0, 0, 5), 5, 6);
     group("first faults");
 }
-
-/* The parts of an answer sheet: two bytes with the low one first, a table of rows, an entry of a walk, a walk. */
-#define TWO(number) (number) & 0xFF, (number) >> 8
-#define ROWS_1(a) TWO(1), a
-#define ROWS_2(a, b) TWO(2), a, b
-#define ROWS_4(a, b, c, d) TWO(4), a, b, c, d
-#define TABLES(table_a, table_b) table_a, table_b, TWO(0)
-#define ENTRY(claim, combination) TWO(claim), TWO(combination)
-#define WALK(count, ...) TWO(0), TWO(0), TWO(count), __VA_ARGS__
-
-/* The answers of the papers, as listed. */
-#define J1_TABLES 1, 0, 0, 1, 0, 0, 0, 0
-#define J2_TABLES TABLES(ROWS_2(0, 0), ROWS_2(1, 1))
-#define J3_WALK WALK(6, ENTRY(0, 2), ENTRY(7, 3), ENTRY(3, 3), ENTRY(6, 2), ENTRY(1, 0), ENTRY(5, 0))
-#define J4_WALK WALK(4, ENTRY(0, 0), ENTRY(2, 0), ENTRY(1, 0), ENTRY(2, 0))
-#define J5_TABLES TABLES(ROWS_1(0), ROWS_1(1))
-#define J5_WALK WALK(2, ENTRY(0, 0), ENTRY(3, 0))
-#define J6_TABLES TABLES(ROWS_1(0), ROWS_2(0, 1))
-#define J7_WALK WALK(4, ENTRY(2, 1), ENTRY(1, 1), ENTRY(3, 0), ENTRY(1, 0))
 
 static void listed_answers(void)
 {
@@ -675,19 +484,6 @@ static void numbers_out_of_range(void)
     group("claims and combinations out of range");
 }
 
-/* The outcome of a bad job, sheet 1, whatever the answer: right, wrong in each of its ways, or empty. */
-static void refuses_any(const char *name, const uint8_t *job, size_t length, uint64_t code, uint64_t place)
-{
-    uint64_t wanted = code | 1 << 8 | place << 16;
-    judge(name, 0, check_guarded(job, length, longest_walk, 0), wanted);
-    judge(name, 8, check_guarded(job, length, SHEET(J1_TABLES)), wanted);
-    judge(name, 22, check_guarded(job, length, SHEET(J4_WALK)), wanted);
-    judge(name, 2, check_guarded(job, length, SHEET(TWO(9))), wanted);
-    judge(name, 3, check_guarded(job, length, SHEET(TWO(1), 2)), wanted);
-    judge(name, 10, check_guarded(job, length, SHEET(WALK(1, ENTRY(65535, 0)))), wanted);
-    judge(name, 9, check_guarded(job, length, SHEET(J1_TABLES, 0)), wanted);
-}
-
 static void bad_jobs_first(void)
 {
     refuses_any("empty job", longest, 0, 1, 0);
@@ -772,15 +568,9 @@ static void checker(void)
 
 int main(void)
 {
-    job_room = guarded_room();
-    answer_room = guarded_room();
+    begin((struct calls){ormsvelg_read, ormsvelg_check});
     reader();
     checker();
     outcome_numbers();
-    if (failures != 0) {
-        printf("host: %u of %u checks failed\n", failures, checks);
-        return 1;
-    }
-    printf("host: %u checks passed\n", checks);
-    return 0;
+    return verdict("host");
 }

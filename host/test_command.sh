@@ -10,6 +10,8 @@ program=${1:?usage: host/test_command.sh PROGRAM}
 folder=$(mktemp -d) || exit 2
 trap 'chmod -R u+rwx "$folder"; rm -rf "$folder"' EXIT
 input=/dev/null
+asks_more='job Q asks more than job P: other pins, a wire less, a rule that contains no rule of P, or an excuse of P'
+asks_more="$asks_more that contains no excuse of Q"
 . host/checks.sh
 
 ormsvelg() { tools/x86 run "$program" "$@"; }
@@ -92,7 +94,7 @@ walks() {
         'B row 1 is 1, so A row 1 is 1, by wires 0=1 1=1' 'A row 1 is 1, so B row 1 is 0, by wires 0=1 1=1' \
         'B row 1 is 0, so A row 0 is 1, by wires 0=0 1=1' 'A row 0 is 1, so B row 0 is 1, by wires 0=0 1=0' \
         'B row 0 is 1, so A row 0 is 0, by wires 0=0 1=0' -- check examples/J3.job examples/J3.walk.answer
-    for job in J3 J4 J7 counter; do
+    for job in J3 J4 J7 counter speed; do
         expect "$job solved" "$(ormsvelg solve "examples/$job.job" -o "$folder/walk")" \
             "$(ormsvelg check "examples/$job.job" "$folder/walk")"
         expect "$job" "$(ormsvelg check "examples/$job.job" "$folder/walk" | head -n 1)" \
@@ -126,13 +128,75 @@ refusals() {
     says 1 'refused: code 12 on sheet 2 at entry 0: step does not hold' \
         'not so: A row 0 is 0, so A row 1 is 0, by wires 0=0 1=0' -- check examples/J3.job examples/J4.walk.answer
     says 1 'refused: code 13 on sheet 2: opposite of the first claim is absent' -- check examples/J5.job "$folder/opposite"
-    says 1 'refused: code 14 on sheet 3: job Q asks more than job P: other pins, a wire less, or a rule that contains no rule of P' \
+    says 1 "refused: code 14 on sheet 3: $asks_more" \
         -- widen examples/J6.job examples/J7.job examples/J6.answer
     says 1 'refused: code 15 on sheet 2: answer is a walk where tables are needed' \
         -- widen examples/J7.job examples/J6.job examples/J7.walk.answer
     says 1 'refused: code 12 on sheet 2 at entry 0: step does not hold' \
         'not so: B row 0 is 0, so A row 0 is 1, by wires 0=1' -- widen examples/J6.job examples/J6.job examples/J7.walk.answer
     says 1 'refused: code 5 on sheet 3 at byte 5: bytes left over' -- widen examples/J1.job "$folder/over" examples/J1.answer
+}
+
+# Job sheets of form two. --form may stand anywhere after the command's name.
+forms() {
+    local wires=('wires 2, on pins 2 3' 'A sees wires 0, rows 2' 'B sees wires 1, rows 2' 'rules 3' \
+        'rule 0: wire 0 is 0 or A is 1' 'rule 1: wire 1 is 0 or B is 1' 'rule 2: A is 0 or B is 0')
+    local walk=('walk stands: no pair of tables fits' 'A row 1 is 1, so B row 1 is 0, by wires 0=1 1=1' \
+        'B row 1 is 0, so A row 1 is 0, by wires 0=1 1=1' 'A row 1 is 0, so B row 1 is 0, by wires 0=1 1=1' \
+        'B row 1 is 0, so A row 1 is 1, by wires 0=1 1=1')
+    says 0 accepted "${wires[@]}" -- read examples/speed.job
+    says 0 accepted "${wires[@]}" -- read --form 1 examples/speed.job
+    says 0 accepted "${wires[@]}" 'excuses 0' -- read --form 2 examples/speed.two.job
+    says 0 accepted "${wires[@]}" 'excuses 1' 'excuse 0: wire 0 is 1 and wire 1 is 1' \
+        -- read examples/speed-excused.two.job --form 2
+    says 0 "${walk[@]}" -- check examples/speed.job examples/speed.walk.answer
+    says 0 "${walk[@]}" -- check --form 2 examples/speed.two.job examples/speed.walk.answer
+    says 0 'tables fit' 'A 01' 'B 01' -- solve --form 2 examples/speed-excused.two.job
+    says 0 'tables fit' 'A 01' 'B 01' -- check examples/speed-excused.two.job --form 2 examples/speed-excused.answer
+    says 0 'tables fit' 'A 00' 'B 11' -- solve --form 1 examples/J2.job
+    expect 'a walk in form two' "$(ormsvelg solve --form 2 examples/speed.two.job -o "$folder/walk")" \
+        "$(ormsvelg check --form 2 examples/speed.two.job "$folder/walk")"
+    expect 'a walk in form two' "$(ormsvelg check --form 2 examples/speed.two.job "$folder/walk" | head -n 1)" "${walk[0]}"
+    ormsvelg solve examples/speed-excused.two.job -o "$folder/made" --form 2 >/dev/null
+    expect 'tables in form two' "$(cmp "$folder/made" examples/speed-excused.answer && echo same)" same
+    rm -f "$folder/made" "$folder/walk"
+    input=examples/speed-excused.two.job
+    says 0 'tables fit' 'A 01' 'B 01' -- solve --form 2 -
+    input=/dev/null
+    { cat examples/J1.job; bytes 02 00 00 00; } >"$folder/two"
+    says 0 accepted 'wires 0' 'A sees no wires, rows 1' 'B sees no wires, rows 1' 'rules 0' 'excuses 2' \
+        'excuse 0: always holds' 'excuse 1: always holds' -- read --form 2 "$folder/two"
+    { cat examples/J7.job; bytes 03 00 01 01 02 00 01 00; } >"$folder/two"
+    says 0 accepted 'wires 1, on pins 0' 'A sees no wires, rows 1' 'B sees no wires, rows 1' 'rules 2' \
+        'rule 0: wire 0 is 0 or B is 1' 'rule 1: wire 0 is 1 or B is 0' 'excuses 3' 'excuse 0: wire 0 is 0' \
+        'excuse 1: wire 0 is 1 and wire 0 is 0' 'excuse 2: always holds' -- read --form 2 "$folder/two"
+}
+
+# The wrong form, faults among the excuses, answers that they change, and a job that excuses less.
+form_refusals() {
+    { cat examples/speed.job; bytes 01 00 01 00; } >"$folder/first"
+    { cat examples/speed.job; bytes 41 00; } >"$folder/many"
+    { cat examples/speed.job; bytes 01 00 02 02 02; } >"$folder/rising"
+    { cat examples/speed.job; bytes 01 00 01 07; } >"$folder/high"
+    says 1 'refused: code 5 on sheet 1 at byte 18: bytes left over' -- read examples/speed-excused.two.job
+    says 1 'refused: code 5 on sheet 1 at byte 18: bytes left over' -- solve --form 1 examples/speed.two.job
+    says 1 'refused: code 1 on sheet 1 at byte 18: job ends where a byte is called for' -- read --form 2 examples/speed.job
+    says 1 'refused: code 2 on sheet 1 at byte 18: count above its limit' -- read --form 2 "$folder/many"
+    says 1 'refused: code 3 on sheet 1 at byte 22: entry not above the one before' -- solve --form 2 "$folder/rising"
+    says 1 'refused: code 4 on sheet 1 at byte 21: wire position or term not below its limit' -- read --form 2 "$folder/high"
+    says 1 'refused: code 10 on sheet 2 at combination 3: tables break a rule' 'broken at wires 0=1 1=1' \
+        -- check --form 2 examples/speed.two.job examples/speed-excused.answer
+    says 1 'refused: code 12 on sheet 2 at entry 0: step does not hold' \
+        'not so: A row 1 is 1, so B row 1 is 0, by wires 0=1 1=1' \
+        -- check --form 2 examples/speed-excused.two.job examples/speed.walk.answer
+    says 0 'tables fit' 'A 01' 'B 01' \
+        -- widen --form 2 examples/speed-excused.two.job "$folder/first" examples/speed-excused.answer
+    says 1 "refused: code 14 on sheet 3: $asks_more" \
+        -- widen --form 2 "$folder/first" examples/speed-excused.two.job examples/speed-excused.answer
+    says 1 'refused: code 1 on sheet 3 at byte 18: job ends where a byte is called for' \
+        -- widen --form 2 "$folder/first" examples/speed.job examples/speed-excused.answer
+    says 1 'refused: code 15 on sheet 2: answer is a walk where tables are needed' \
+        -- widen --form 2 examples/speed.two.job examples/speed-excused.two.job examples/speed.walk.answer
 }
 
 # The longest sheets, and files far longer than any sheet.
@@ -147,6 +211,7 @@ sizes() {
     expect 'the longest job' "$(ormsvelg read "$folder/longest" | sed -n '1p;2p;$=')" \
         $'accepted\nwires 12, on pins 0 1 2 3 4 5 6 7 8 9 10 11\n261'
     expect 'the longest job' "$(ormsvelg solve "$folder/longest" | sed -n '1p;$=')" $'tables fit\n3'
+    cp "$folder/longest" "$folder/longest_two"
     bytes 00 >>"$folder/longest"
     says 1 'refused: code 5 on sheet 1 at byte 7457: bytes left over' -- read "$folder/longest"
     head -c 3000000 /dev/zero >>"$folder/longest"
@@ -160,6 +225,26 @@ sizes() {
     head -c 3000000 /dev/zero >>"$folder/answer"
     says 1 'refused: code 7 on sheet 2 at byte 8190: answer ends early or has bytes over' \
         -- check examples/J1.job "$folder/answer"
+}
+
+# The longest sheet of form two: the longest of form one and 64 excuses of all 24 terms.
+sizes_two() {
+    {
+        bytes 40 00
+        for excuse in {1..64}; do
+            bytes 18 00 01 02 03 04 05 06 07 08 09 0A 0B 0C 0D 0E 0F 10 11 12 13 14 15 16 17
+        done
+    } >>"$folder/longest_two"
+    expect 'the longest job of form two' "$(wc -c <"$folder/longest_two")" 9059
+    expect 'the longest job of form two' "$(ormsvelg read --form 2 "$folder/longest_two" | sed -n '1p;262p;$=')" \
+        $'accepted\nexcuses 64\n326'
+    expect 'the longest job of form two' "$(ormsvelg solve --form 2 "$folder/longest_two" | sed -n '1p;$=')" $'tables fit\n3'
+    says 1 'refused: code 5 on sheet 1 at byte 7457: bytes left over' -- read "$folder/longest_two"
+    bytes 00 >>"$folder/longest_two"
+    says 1 'refused: code 5 on sheet 1 at byte 9059: bytes left over' -- read --form 2 "$folder/longest_two"
+    head -c 3000000 /dev/zero >>"$folder/longest_two"
+    says 1 'refused: code 5 on sheet 1 at byte 9059: bytes left over' -- solve --form 2 "$folder/longest_two"
+    says 1 'refused: code 5 on sheet 1 at byte 7: bytes left over' -- read --form 2 /dev/zero
 }
 
 # Texts that make a sheet. Those of the examples make the examples' sheets.
@@ -300,6 +385,23 @@ uses() {
     fails '-o is given twice' -- solve -o "$folder/none" -o "$folder/none" examples/J2.job
     fails '-o has no meaning for read' -- read examples/J2.job -o "$folder/none"
     fails '-o has no meaning for check' -- check examples/J2.job examples/J2.answer -o "$folder/none"
+    fails '--form wants 1 or 2' -- read examples/J2.job --form
+    fails '--form wants 1 or 2, not 3' -- read --form 3 examples/J2.job
+    fails '--form wants 1 or 2, not 0' -- solve --form 0 examples/J2.job
+    fails '--form wants 1 or 2, not 02' -- solve --form 02 examples/J2.job
+    fails '--form wants 1 or 2, not 22' -- check examples/J2.job --form 22 examples/J2.answer
+    fails '--form wants 1 or 2, not ' -- read --form '' examples/J2.job
+    fails '--form wants 1 or 2, not two' -- write --form two examples/J2.text
+    fails '--form wants 1 or 2, not examples/J2.job' -- read --form examples/J2.job
+    fails '--form is given twice' -- widen --form 2 --form 2 examples/J6.job examples/J6.wide.job examples/J6.answer
+    fails '--form is given twice' -- read --form 1 examples/J2.job --form 2
+    fails '--form 2 has no meaning for write' -- write --form 2 examples/J2.text -o "$folder/none"
+    fails '--form 2 has no meaning for write' -- write examples/J2.text --form 2
+    fails 'unknown option: --form=2' -- read --form=2 examples/J2.job
+    fails 'unknown command: --form' -- --form 2 read examples/J2.job
+    fails 'a file is missing' -- check --form 2 examples/J2.job
+    expect 'the use of check' "$(ormsvelg check 2>&1 | tail -n 1)" 'use: ormsvelg check [--form 2] JOB ANSWER'
+    expect 'form 1 for write' "$(ormsvelg write --form 1 examples/J2.text | head -n 1)" 'sheet of 14 bytes'
     fails 'only one sheet can be -, standard input' -- check - -
     fails 'only one sheet can be -, standard input' -- widen - examples/J6.job -
     expect 'no file' "$([ -e "$folder/none" ] || echo none)" none
@@ -414,6 +516,7 @@ unwritable() {
 full_output() {
     local words
     for words in '--help' '--version' 'read examples/J2.job' 'solve examples/J3.job' 'write examples/J2.text' \
+        'read --form 2 examples/speed-excused.two.job' \
         "read $folder/many_rules"; do
         # shellcheck disable=SC2086
         expect "$words to a full disk" "$(ormsvelg $words 2>&1 >/dev/full; echo "status $?")" \
@@ -427,7 +530,10 @@ case $program in /*) full=$program ;; *) full=$PWD/$program ;; esac
 examples
 walks
 refusals
+forms
+form_refusals
 sizes
+sizes_two
 texts
 bad_texts
 bad_descriptions

@@ -8,8 +8,8 @@
 
 /* Where an accepted job has its sections, and the numbers that its answers are read by. */
 struct board {
-    unsigned wires, rows_a, rows_b, rules;
-    const uint8_t *pins, *seen_a, *seen_b, *first_rule;
+    unsigned wires, rows_a, rows_b;
+    const uint8_t *pins, *seen_a, *seen_b, *rules;
 };
 
 static inline struct board board_of(const uint8_t *job)
@@ -21,9 +21,7 @@ static inline struct board board_of(const uint8_t *job)
     board.rows_a = 1u << board.seen_a[0];
     board.seen_b = board.seen_a + 1 + board.seen_a[0];
     board.rows_b = 1u << board.seen_b[0];
-    board.first_rule = board.seen_b + 1 + board.seen_b[0];
-    board.rules = word(board.first_rule);
-    board.first_rule += 2;
+    board.rules = board.seen_b + 1 + board.seen_b[0];
     return board;
 }
 
@@ -45,34 +43,52 @@ static inline void show_term(unsigned wires, unsigned term)
         printf("%c is %u", subject == wires ? 'A' : 'B', 1 - term % 2);
 }
 
-/* A rule from its term count on. Gives the place after it. */
-static inline const uint8_t *show_rule(unsigned wires, unsigned number, const uint8_t *at)
+/* How a set of terms reads: its name, what stands between two terms, and what an empty one does. */
+struct reads {
+    const char *name, *between, *empty;
+};
+
+static const struct reads as_rule = {"rule", " or ", "never holds"}, as_excuse = {"excuse", " and ", "always holds"};
+
+/* A set of terms from its count on. Gives the place after it. */
+static inline const uint8_t *show_terms(const struct reads *reads, unsigned wires, unsigned number, const uint8_t *at)
 {
-    printf("rule %u: ", number);
+    printf("%s %u: ", reads->name, number);
     if (at[0] == 0)
-        printf("never holds");
+        printf("%s", reads->empty);
     for (unsigned i = 1; i <= at[0]; i++) {
         if (i > 1)
-            printf(" or ");
+            printf("%s", reads->between);
         show_term(wires, at[i]);
     }
     putchar('\n');
     return at + 1 + at[0];
 }
 
-static inline void show_job(const uint8_t *job)
+/* A section of rules or excuses from its count on. Gives the place after it. */
+static inline const uint8_t *show_section(const struct reads *reads, unsigned wires, const uint8_t *at)
+{
+    unsigned count = word(at);
+    printf("%ss %u\n", reads->name, count);
+    at += 2;
+    for (unsigned number = 0; number < count; number++)
+        at = show_terms(reads, wires, number, at);
+    return at;
+}
+
+/* A job of form 1 or 2. Form two has the excuses after the rules. */
+static inline void show_job(const uint8_t *job, int form)
 {
     struct board board = board_of(job);
-    const uint8_t *at = board.first_rule;
     printf("wires %u%s", board.wires, board.wires == 0 ? "" : ", on pins");
     for (unsigned wire = 0; wire < board.wires; wire++)
         printf(" %u", board.pins[wire]);
     putchar('\n');
     show_seen('A', board.seen_a, board.rows_a);
     show_seen('B', board.seen_b, board.rows_b);
-    printf("rules %u\n", board.rules);
-    for (unsigned rule = 0; rule < board.rules; rule++)
-        at = show_rule(board.wires, rule, at);
+    const uint8_t *excuses = show_section(&as_rule, board.wires, board.rules);
+    if (form == 2)
+        show_section(&as_excuse, board.wires, excuses);
 }
 
 /* The wires' states in a combination: the wire at position p has weight 2^p. */
@@ -136,7 +152,9 @@ static inline const char *reason(uint32_t code)
     case ORMSVELG_OUT_OF_RANGE: return "claim or combination not below its limit";
     case ORMSVELG_NO_STEP: return "step does not hold";
     case ORMSVELG_NO_OPPOSITE: return "opposite of the first claim is absent";
-    case ORMSVELG_ASKS_MORE: return "job Q asks more than job P: other pins, a wire less, or a rule that contains no rule of P";
+    case ORMSVELG_ASKS_MORE:
+        return "job Q asks more than job P: other pins, a wire less, a rule that contains no rule of P, or an excuse of P "
+               "that contains no excuse of Q";
     case ORMSVELG_WALK_GIVEN: return "answer is a walk where tables are needed";
     default: return "a code that is not in use";
     }

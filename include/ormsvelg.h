@@ -18,12 +18,18 @@
  *         printf("tables in %u bytes\n", ormsvelg_written(outcome));
  */
 
-/* The limits of the sheets. No longer sheet is accepted, and of a longer one the first ORMSVELG_LONGEST_JOB + 1
- * or ORMSVELG_LONGEST_ANSWER + 1 bytes decide the outcome. */
+/* A job sheet is of form one or of form two. Form two has a section more, after the rules: excuses, each a set of terms of
+ * the wires. A combination at which all terms of some excuse hold is excused: tables may break a rule there, and no step
+ * holds by it. Which form a call takes is in its name: those that end in _two take form two, the others form one. */
+
+/* The limits of the sheets. No longer sheet is accepted, and of a longer one the first ORMSVELG_LONGEST_JOB + 1, in form
+ * two ORMSVELG_LONGEST_JOB_TWO + 1, or ORMSVELG_LONGEST_ANSWER + 1 bytes decide the outcome. */
 #define ORMSVELG_MOST_WIRES 12
 #define ORMSVELG_MOST_SEEN 8
 #define ORMSVELG_MOST_RULES 256
+#define ORMSVELG_MOST_EXCUSES 64
 #define ORMSVELG_LONGEST_JOB 7457
+#define ORMSVELG_LONGEST_JOB_TWO 9059
 #define ORMSVELG_LONGEST_ANSWER 8190
 
 /* Codes. Successes have sheet and place 0. The place of each refusal stands beside it. */
@@ -35,7 +41,7 @@
 #define ORMSVELG_ENDS 1          /* job ends where a byte is called for: its length */
 #define ORMSVELG_TOO_MANY 2      /* count above its limit: the count's first byte */
 #define ORMSVELG_NOT_RISING 3    /* entry not above the one before: its offset */
-#define ORMSVELG_TOO_HIGH 4      /* wire position not below n, or term not below 2n+4: its offset */
+#define ORMSVELG_TOO_HIGH 4      /* wire position not below n, or term not below 2n+4, in an excuse 2n: its offset */
 #define ORMSVELG_LEFT_OVER 5     /* bytes left over in a job: the first of them */
 #define ORMSVELG_NO_ROOM 6       /* answer buffer under ORMSVELG_LONGEST_ANSWER bytes, or sheet buffer shorter than the
                                   * sheet to be written, sheet 0: 0 */
@@ -43,7 +49,7 @@
 #define ORMSVELG_WRONG_LENGTH 7  /* answer ends early, or has bytes over: its length, or the first of them */
 #define ORMSVELG_OTHER_KIND 8    /* count of neither permitted kind after the counts before it: its first byte */
 #define ORMSVELG_NOT_A_BIT 9     /* table byte above 1: its offset */
-#define ORMSVELG_BREAKS_RULE 10  /* tables break a rule: the lowest such combination */
+#define ORMSVELG_BREAKS_RULE 10  /* tables break a rule: the lowest such combination that is not excused */
 #define ORMSVELG_OUT_OF_RANGE 11 /* claim not below 2R, or combination not below 2^n: its two bytes' offset */
 #define ORMSVELG_NO_STEP 12      /* a step does not hold: the lowest such entry's number, from 0 */
 #define ORMSVELG_NO_OPPOSITE 13  /* opposite of the first claim is absent: 0 */
@@ -73,9 +79,19 @@ uint64_t ormsvelg_solve(const uint8_t *job, size_t job_len, uint8_t *answer, siz
 uint64_t ormsvelg_widen(const uint8_t *p, size_t p_len, const uint8_t *q, size_t q_len,
                         const uint8_t *answer, size_t answer_len, uint8_t *out, size_t out_len);
 
-/* Writes the job sheet of a description: the pins, a byte for each of the n = pins_len wires; the wires that A and B
- * see, wire p with weight 2^p; and rules_len rules, each the mask of its terms, term t with weight 2^t. Term 2p says that
- * wire p is 1, 2n that A is 1, 2n+2 that B is 1; the odd term after each says 0. `rules` is aligned as C aligns uint32_t.
+/* The same four calls for job sheets of form two, with the same outcomes; the codes 1 to 5 apply to the excuses too.
+ * For ormsvelg_widen_two both jobs are of form two, and for Q to ask no more each excuse of P must also contain all
+ * terms of some excuse of Q, even an excuse that can never hold; else 14. */
+uint64_t ormsvelg_read_two(const uint8_t *job, size_t job_len);
+uint64_t ormsvelg_check_two(const uint8_t *job, size_t job_len, const uint8_t *answer, size_t answer_len);
+uint64_t ormsvelg_solve_two(const uint8_t *job, size_t job_len, uint8_t *answer, size_t answer_len);
+uint64_t ormsvelg_widen_two(const uint8_t *p, size_t p_len, const uint8_t *q, size_t q_len,
+                            const uint8_t *answer, size_t answer_len, uint8_t *out, size_t out_len);
+
+/* Writes the job sheet of a description, in form one: the pins, a byte for each of the n = pins_len wires; the wires that
+ * A and B see, wire p with weight 2^p; and rules_len rules, each the mask of its terms, term t with weight 2^t. Term 2p
+ * says that wire p is 1, 2n that A is 1, 2n+2 that B is 1; the odd term after each says 0. `rules` is aligned as C aligns
+ * uint32_t.
  * ORMSVELG_ACCEPTED: the sheet is at the front of `sheet`, where exactly its length is enough; bytes beyond it stay. Else
  * the first of these, and every byte stays. Section 1: 2 for more than 12 pins; 3 for a pin not above the one before, at
  * its index. Section 2, what A sees: 2 for more than 8 wires; 4 for the first not below n, at its index in the rising set.
