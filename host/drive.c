@@ -15,11 +15,17 @@ extern long write(int file, const void *bytes, size length);
 extern void *memcpy(void *to, const void *from, size length);
 extern void _exit(int status) __attribute__((noreturn));
 
-extern outcome ormsvelg_read(const byte *job, size job_len);
-extern outcome ormsvelg_check(const byte *job, size job_len, const byte *answer, size answer_len);
-extern outcome ormsvelg_solve(const byte *job, size job_len, byte *answer, size answer_len);
-extern outcome ormsvelg_widen(const byte *p, size p_len, const byte *q, size q_len, const byte *answer, size answer_len,
-                              byte *out, size out_len);
+/* The calls that take job sheets, for form one and for form two. */
+typedef outcome reading(const byte *job, size job_len);
+typedef outcome checking(const byte *job, size job_len, const byte *answer, size answer_len);
+typedef outcome solving(const byte *job, size job_len, byte *answer, size answer_len);
+typedef outcome widening(const byte *p, size p_len, const byte *q, size q_len, const byte *answer, size answer_len,
+                         byte *out, size out_len);
+
+extern reading ormsvelg_read, ormsvelg_read_two;
+extern checking ormsvelg_check, ormsvelg_check_two;
+extern solving ormsvelg_solve, ormsvelg_solve_two;
+extern widening ormsvelg_widen, ormsvelg_widen_two;
 extern outcome ormsvelg_write(const byte *pins, size pins_len, mask sees_a, mask sees_b, const mask *rules, size rules_len,
                               byte *sheet, size sheet_len);
 
@@ -207,6 +213,32 @@ static void respond(outcome got, int slices, int written)
     for (i = slices - written; i < slices; i++) put_bytes(lents[i].place + GUARDS, length_of(i));
 }
 
+static void serve_read(reading *call)
+{
+    take_slices(1);
+    respond(call(bytes_of(0), length_of(0)), 1, 0);
+}
+
+static void serve_check(checking *call)
+{
+    take_slices(2);
+    respond(call(bytes_of(0), length_of(0), bytes_of(1), length_of(1)), 2, 0);
+}
+
+static void serve_solve(solving *call)
+{
+    take_slices(2);
+    respond(call(bytes_of(0), length_of(0), bytes_of(1), length_of(1)), 2, 1);
+}
+
+static void serve_widen(widening *call)
+{
+    take_slices(4);
+    respond(call(bytes_of(0), length_of(0), bytes_of(1), length_of(1), bytes_of(2), length_of(2), bytes_of(3),
+                 length_of(3)),
+            4, 1);
+}
+
 /* Makes a job sheet: the pins, the masks of what A and B see in one slice, the rules' masks, the lent sheet.
    A mask is low byte first, as this machine has it. */
 static void serve_sheet(void)
@@ -222,33 +254,20 @@ static void serve_sheet(void)
             4, 1);
 }
 
-/* Serves one request. A call more is a declaration above and a case here. */
+/* Serves one request; the upper-case ops are for form two. A call more is a declaration above and a case here. */
 static void serve(byte op)
 {
     switch (op) {
-    case 'r':
-        take_slices(1);
-        respond(ormsvelg_read(bytes_of(0), length_of(0)), 1, 0);
-        break;
-    case 'c':
-        take_slices(2);
-        respond(ormsvelg_check(bytes_of(0), length_of(0), bytes_of(1), length_of(1)), 2, 0);
-        break;
-    case 's':
-        take_slices(2);
-        respond(ormsvelg_solve(bytes_of(0), length_of(0), bytes_of(1), length_of(1)), 2, 1);
-        break;
-    case 'w':
-        take_slices(4);
-        respond(ormsvelg_widen(bytes_of(0), length_of(0), bytes_of(1), length_of(1), bytes_of(2), length_of(2),
-                               bytes_of(3), length_of(3)),
-                4, 1);
-        break;
-    case 'j':
-        serve_sheet();
-        break;
-    default:
-        fail(BAD_REQUEST, "drive: a request with an unknown op\n");
+    case 'r': serve_read(ormsvelg_read); break;
+    case 'R': serve_read(ormsvelg_read_two); break;
+    case 'c': serve_check(ormsvelg_check); break;
+    case 'C': serve_check(ormsvelg_check_two); break;
+    case 's': serve_solve(ormsvelg_solve); break;
+    case 'S': serve_solve(ormsvelg_solve_two); break;
+    case 'w': serve_widen(ormsvelg_widen); break;
+    case 'W': serve_widen(ormsvelg_widen_two); break;
+    case 'j': serve_sheet(); break;
+    default: fail(BAD_REQUEST, "drive: a request with an unknown op\n");
     }
 }
 

@@ -1,6 +1,7 @@
-// The cases of the checker: the answers that document 01 names, then random boards with answers right and wrong.
+// The cases of the checker: the answers that the papers name, then random boards with answers right and wrong.
 // Each random board is expanded once, so that right answers are at hand, and then gets several answers.
-// It leans on make, ties, damage, expand, spoil and check.
+// Boards with excuses also get the answers that would be right without them.
+// It leans on make, ties, damage, given, spoil and check.
 
 use crate::answer::{Answer, Walk, LONGEST_WALK};
 use crate::board::{Board, Claim, Combination};
@@ -8,9 +9,11 @@ use crate::case::{hex, Call, Case, Judgement, Known, USUAL_COUNT};
 use crate::check::check_outcome;
 use crate::damage::damage;
 use crate::expand::Expansion;
-use crate::job::{JobSheet, MOST_RULES, MOST_WIRES};
+use crate::given::Given;
+use crate::job::{Form, JobSheet, MOST_RULES, MOST_WIRES};
 use crate::make::{fitting_job, job_of_size, random_job, tied_job};
-use crate::named::{EQUAL_AS_WIRES, J1, J2, J3, J4, J5, J6, J6_WIDENED, J7};
+use crate::named::{in_form, with_excuses, EQUAL_AS_WIRES, J1, J2, J3, J4, J5, J6, J6_WIDENED, J7};
+use crate::named::{EMPTY, FIRST_IS_0, FIRST_IS_1, FIRST_IS_BOTH, FIRST_IS_EITHER, NONE, NOT_BOTH_HIGH, SPEED_WIRES};
 use crate::outcome::{Outcome, Refusal, ANSWER, JOB};
 use crate::random::Random;
 use crate::spoil::{random_walk, spoil_sheet, spoil_tables, spoil_walk};
@@ -21,6 +24,7 @@ const ANSWERS_EACH: usize = 12;
 pub const CHECKER: Call = Call {
     op: b'c',
     name: "check",
+    form: Form::One,
     writes: 0,
     count: USUAL_COUNT,
     codes: &[1, 2, 3, 4, 5, 7, 8, 9, 10, 11, 12, 13, 20, 21],
@@ -28,60 +32,97 @@ pub const CHECKER: Call = Call {
     balanced: false,
     named: named_answers,
     make: random_answers,
-    judge: |slices, _| Judgement::outcome(check_outcome(&slices[0], &slices[1])),
+    judge: |form, slices, _| Judgement::outcome(check_outcome(form, &slices[0], &slices[1])),
 };
 
 /// The answers that the paper names, and walks at both sides of the longest.
-fn named_answers(_: &mut Random) -> Vec<Case> {
-    let tables = |a: &[u8], b: &[u8]| Answer::Tables([a.to_vec(), b.to_vec()]);
-    let walk = |entries: &[(usize, usize)]| Answer::Walk(walk_of(entries));
+fn named_answers(form: Form, _: &mut Random) -> Vec<Case> {
+    let of = |sheet: &str| in_form(form, sheet);
     let round = [(0, 0), (2, 0), (1, 0), (3, 0)];
     let longest: Vec<(usize, usize)> = round.into_iter().cycle().take(LONGEST_WALK).collect();
     let beyond = [&longest[..], &[(0, 0)]].concat();
     let tables_20 = Outcome::success(20);
     let walk_21 = Outcome::success(21);
-    let refused = |code, place| Outcome::refused(Refusal { code, place }, ANSWER);
-    vec![
-        case(hex(J1), hex("01 00 00 01 00 00 00 00"), Some(tables_20)),
-        case(hex(J2), tables(&[0, 0], &[1, 1]).sheet(), Some(tables_20)),
-        case(hex(J2), tables(&[0, 0], &[0, 0]).sheet(), Some(refused(10, 0))),
-        case(hex(J3), walk(&[(0, 2), (7, 3), (3, 3), (6, 2), (1, 0), (5, 0)]).sheet(), Some(walk_21)),
-        case(hex(J4), walk(&[(0, 0), (2, 0), (1, 0), (2, 0)]).sheet(), Some(walk_21)),
-        case(hex(J5), tables(&[0], &[1]).sheet(), Some(tables_20)),
-        case(hex(J5), walk(&[(0, 0), (3, 0)]).sheet(), Some(refused(13, 0))),
-        case(hex(J6), tables(&[0], &[0, 1]).sheet(), Some(tables_20)),
-        case(hex(J7), walk(&[(2, 1), (1, 1), (3, 0), (1, 0)]).sheet(), Some(walk_21)),
-        case(hex(J6_WIDENED), tables(&[0, 0], &[0, 1]).sheet(), Some(tables_20)),
-        case(hex(EQUAL_AS_WIRES), tables(&[0, 1], &[0, 1]).sheet(), Some(tables_20)),
-        case(hex(J1), walk(&[(0, 0)]).sheet(), Some(refused(12, 0))),
-        case(hex(J4), walk(&longest).sheet(), Some(walk_21)),
-        case(hex(J4), walk(&beyond).sheet(), Some(refused(8, 4))),
-    ]
+    let mut cases = vec![
+        case(of(J1), hex("01 00 00 01 00 00 00 00"), Some(tables_20)),
+        case(of(J2), tables(&[0, 0], &[1, 1]).sheet(), Some(tables_20)),
+        case(of(J2), tables(&[0, 0], &[0, 0]).sheet(), Some(refused(10, 0))),
+        case(of(J3), walk(&[(0, 2), (7, 3), (3, 3), (6, 2), (1, 0), (5, 0)]).sheet(), Some(walk_21)),
+        case(of(J4), walk(&[(0, 0), (2, 0), (1, 0), (2, 0)]).sheet(), Some(walk_21)),
+        case(of(J5), tables(&[0], &[1]).sheet(), Some(tables_20)),
+        case(of(J5), walk(&[(0, 0), (3, 0)]).sheet(), Some(refused(13, 0))),
+        case(of(J6), tables(&[0], &[0, 1]).sheet(), Some(tables_20)),
+        case(of(J7), walk(&[(2, 1), (1, 1), (3, 0), (1, 0)]).sheet(), Some(walk_21)),
+        case(of(J6_WIDENED), tables(&[0, 0], &[0, 1]).sheet(), Some(tables_20)),
+        case(of(EQUAL_AS_WIRES), tables(&[0, 1], &[0, 1]).sheet(), Some(tables_20)),
+        case(of(J1), walk(&[(0, 0)]).sheet(), Some(refused(12, 0))),
+        case(of(J4), walk(&longest).sheet(), Some(walk_21)),
+        case(of(J4), walk(&beyond).sheet(), Some(refused(8, 4))),
+    ];
+    if form == Form::Two {
+        cases.extend(named_excused());
+    }
+    cases
 }
 
-fn walk_of(entries: &[(usize, usize)]) -> Walk {
-    entries.iter().map(|(claim, combination)| (Claim(*claim), Combination(*combination))).collect()
+/// Jobs of document 01 with excuses, and tables and walks that these let pass or take away.
+fn named_excused() -> Vec<Case> {
+    let tables_20 = Outcome::success(20);
+    let stands = walk(&[(2, 1), (1, 1), (3, 0), (1, 0)]);
+    let equal = tables(&[0, 0], &[0, 0]);
+    let cases = [
+        (J4, EMPTY, tables(&[0], &[0]), tables_20),
+        (J4, EMPTY, walk(&[(0, 0), (2, 0), (1, 0), (2, 0)]), refused(12, 0)),
+        (J2, FIRST_IS_0, equal.clone(), refused(10, 1)),
+        (J2, FIRST_IS_1, equal.clone(), refused(10, 0)),
+        (J2, FIRST_IS_BOTH, equal.clone(), refused(10, 0)),
+        (J2, FIRST_IS_EITHER, equal, tables_20),
+        (J7, FIRST_IS_1, tables(&[0], &[0]), tables_20),
+        (J7, FIRST_IS_1, tables(&[0], &[1]), refused(10, 0)),
+        (J7, FIRST_IS_0, tables(&[0], &[0]), refused(10, 1)),
+        (J7, FIRST_IS_1, stands.clone(), refused(12, 0)),
+        (J7, FIRST_IS_0, stands.clone(), refused(12, 2)),
+        (J7, FIRST_IS_BOTH, stands, Outcome::success(21)),
+        (SPEED_WIRES, NOT_BOTH_HIGH, tables(&[0, 1], &[0, 1]), tables_20),
+        (SPEED_WIRES, NONE, tables(&[0, 1], &[0, 1]), refused(10, 3)),
+    ];
+    cases.map(|(job, excuses, answer, known)| case(with_excuses(job, excuses), answer.sheet(), Some(known))).into()
 }
 
-fn random_answers(random: &mut Random) -> Vec<Case> {
+fn tables(a: &[u8], b: &[u8]) -> Answer {
+    Answer::Tables([a.to_vec(), b.to_vec()])
+}
+
+fn walk(entries: &[(usize, usize)]) -> Answer {
+    Answer::Walk(entries.iter().map(|(claim, combination)| (Claim(*claim), Combination(*combination))).collect())
+}
+
+fn refused(code: u8, place: usize) -> Outcome {
+    Outcome::refused(Refusal { code, place }, ANSWER)
+}
+
+fn random_answers(form: Form, random: &mut Random) -> Vec<Case> {
     let job = match random.below(2000) {
-        0 => job_of_size(random, MOST_WIRES, MOST_RULES),
-        1 => fitting_job(random, MOST_WIRES, MOST_RULES),
+        0 => job_of_size(form, random, MOST_WIRES, MOST_RULES),
+        1 => fitting_job(form, random, MOST_WIRES, MOST_RULES),
         2..=200 => {
             let (wires, rules) = (random.within(0, 8), random.within(0, 12));
-            fitting_job(random, wires, rules)
+            fitting_job(form, random, wires, rules)
         }
-        201..=300 => ring_job(random),
-        301..=800 => random_job(random),
-        _ => tied_job(random),
+        201..=300 => ring_job(form, random),
+        301..=800 => random_job(form, random),
+        _ => tied_job(form, random),
     };
-    let sheet = JobSheet::of(&job);
-    let board = Board::of(job);
-    let expansion = Expansion::of(&board, random);
-    (0..ANSWERS_EACH).map(|_| random_answer(&board, &sheet, &expansion, random)).collect()
+    let given = Given::of(job, random);
+    (0..ANSWERS_EACH).map(|_| random_answer(&given, random)).collect()
 }
 
-fn random_answer(board: &Board, job: &JobSheet, expansion: &Expansion, random: &mut Random) -> Case {
+fn random_answer(given: &Given, random: &mut Random) -> Case {
+    let Given { board, sheet: job, expansion, unexcused, .. } = given;
+    if let Some(unexcused) = unexcused.as_ref().filter(|_| random.once_in(8)) {
+        let (answer, outcome) = unexcused_answer(given, unexcused, random);
+        return case(job.bytes.clone(), answer.sheet(), Some(outcome));
+    }
     let (right, code) = right_answer(board, expansion, random);
     let accepted = Some(Outcome::success(code));
     match random.below(16) {
@@ -90,7 +131,7 @@ fn random_answer(board: &Board, job: &JobSheet, expansion: &Expansion, random: &
         6..=8 => case(job.bytes.clone(), spoil(board, &right, random).sheet(), None),
         9..=12 => {
             let spoiled = spoil_sheet(board, &right, random);
-            let known = spoiled.known.map(|refusal| Outcome::refused(refusal, ANSWER));
+            let known = spoiled.known.map(|Refusal { code, place }| refused(code, place));
             case(job.bytes.clone(), spoiled.bytes, known)
         }
         13 => twice_wrong(board, job, &right, random),
@@ -116,6 +157,17 @@ pub fn right_answer(board: &Board, expansion: &Expansion, random: &mut Random) -
     }
     let walk = expansion.steps.there_and_back(*random.choose(&conflicts));
     (Answer::Walk(vary(walk, random)), 21)
+}
+
+/// An answer that is right without the excuses, and what must come of it with them. Tables fit all the same.
+/// A walk stands only if none of its steps is by an excused combination.
+pub fn unexcused_answer(given: &Given, unexcused: &Expansion, random: &mut Random) -> (Answer, Outcome) {
+    let (answer, code) = right_answer(&given.board, unexcused, random);
+    let missing = match &answer {
+        Answer::Walk(walk) => given.expansion.steps.first_missing(walk),
+        Answer::Tables(_) => None,
+    };
+    (answer, missing.map_or(Outcome::success(code), |entry| refused(12, entry)))
 }
 
 /// A walk that stands as the given one does: itself, repeated, or backwards from opposite to opposite.
@@ -149,7 +201,7 @@ fn closed_case(job: &JobSheet, expansion: &Expansion, random: &mut Random) -> Op
     let first = walk[0].0;
     let known = match walk.iter().any(|(other, _)| *other == first.opposite()) {
         true => Outcome::success(21),
-        false => Outcome::refused(Refusal { code: 13, place: 0 }, ANSWER),
+        false => refused(13, 0),
     };
     Some(case(job.bytes.clone(), Answer::Walk(walk).sheet(), Some(known)))
 }

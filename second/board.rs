@@ -1,5 +1,6 @@
-// What a job means: the row that a combination shows, the rules that hold at it, the steps between claims.
-// Everything is taken from the definitions of document 01, term by term, without masks or tables.
+// What a job means: the row that a combination shows, the rules that hold at it, whether it is excused, the steps
+// between claims. Everything is taken from the definitions of document 01 and of request 2 of document 02, term by
+// term, without masks or tables.
 // It leans on job.
 
 use crate::job::Job;
@@ -43,6 +44,10 @@ impl Board {
         &self.job.rules
     }
 
+    pub fn excuses(&self) -> &[Vec<u8>] {
+        &self.job.excuses
+    }
+
     /// The row count of a cell, 0 for A and 1 for B.
     pub fn rows(&self, cell: usize) -> usize {
         1 << self.job.sees[cell].len()
@@ -82,19 +87,22 @@ impl Board {
     }
 
     fn is_true(&self, term: u8, combination: Combination, values: [u8; 2]) -> bool {
-        let variable = term as usize / 2;
-        let value = match variable.checked_sub(self.job.wires()) {
-            None => (combination.0 >> variable & 1) as u8,
-            Some(cell) => values[cell],
-        };
-        let negated = term % 2 == 1;
-        (value == 1) != negated
+        match (term as usize / 2).checked_sub(self.job.wires()) {
+            None => wire_term_is_true(term, combination),
+            Some(cell) => agrees(term, values[cell]),
+        }
+    }
+
+    /// Whether the tables need not keep the rules at the combination, and no step goes by it.
+    pub fn is_excused(&self, combination: Combination) -> bool {
+        self.job.excuses.iter().any(|excuse| excuse.iter().all(|term| wire_term_is_true(*term, combination)))
     }
 
     /// Whether a step goes from one claim to the other by the combination.
     pub fn step_holds(&self, from: Claim, to: Claim, combination: Combination) -> bool {
         let (cell, other) = (self.cell(from), self.cell(to));
         if cell == other
+            || self.is_excused(combination)
             || self.shown_of_all(cell, combination) != from.row()
             || self.shown_of_all(other, combination) != to.row()
         {
@@ -105,4 +113,14 @@ impl Board {
         values[other] = 1 - to.value();
         self.breaks(combination, values)
     }
+}
+
+fn wire_term_is_true(term: u8, combination: Combination) -> bool {
+    agrees(term, (combination.0 >> (term / 2) & 1) as u8)
+}
+
+/// A plain term is true where its variable is 1, a negated one where it is 0.
+fn agrees(term: u8, value: u8) -> bool {
+    let negated = term % 2 == 1;
+    (value == 1) != negated
 }

@@ -1,7 +1,8 @@
 // What the comparison is made of: a call of the C face, the cases it is given, and the responses that come back.
 // A call brings its own cases and its own judgement of them; the comparison itself knows neither sheets nor rules.
-// It leans on random and outcome.
+// It leans on job, random and outcome.
 
+use crate::job::Form;
 use crate::outcome::{Outcome, WALK};
 use crate::random::Random;
 use std::fmt;
@@ -79,6 +80,8 @@ pub struct Call {
     /// The byte that asks for this call over the pipe.
     pub op: u8,
     pub name: &'static str,
+    /// The form of its job sheets.
+    pub form: Form,
     /// How many of its slices it may write; they are the last ones.
     pub writes: usize,
     /// How many cases are made where the command line does not say.
@@ -90,12 +93,28 @@ pub struct Call {
     /// Whether tables and walks must both make up a good part of the answers.
     pub balanced: bool,
     /// Cases that come first, whatever the seed.
-    pub named: fn(&mut Random) -> Vec<Case>,
+    pub named: fn(Form, &mut Random) -> Vec<Case>,
     /// One random case, or some that belong together.
-    pub make: fn(&mut Random) -> Vec<Case>,
+    pub make: fn(Form, &mut Random) -> Vec<Case>,
     /// What this program makes of the slices. The command's own response counts where several answers are right,
     /// and where what it wrote is read back.
-    pub judge: fn(&[Vec<u8>], &Response) -> Judgement,
+    pub judge: fn(Form, &[Vec<u8>], &Response) -> Judgement,
+}
+
+impl Call {
+    /// The same call with job sheets of form two, half as often. Its op is the upper-case letter.
+    pub const fn in_form_two(self) -> Call {
+        Call { op: self.op.to_ascii_uppercase(), form: Form::Two, count: self.count / 2, ..self }
+    }
+}
+
+impl fmt::Display for Call {
+    fn fmt(&self, out: &mut fmt::Formatter) -> fmt::Result {
+        match self.form {
+            Form::One => write!(out, "{}", self.name),
+            Form::Two => write!(out, "{} in form two", self.name),
+        }
+    }
 }
 
 /// Bytes from hexadecimal with spaces between.

@@ -1,9 +1,11 @@
-// Checks an answer sheet against a job by document 01: reads it from left to right, then tests tables or walk.
-// Tables are tested at every combination and walks at every step, straight from the definitions.
+// Checks an answer sheet against a job of either form by the papers: reads it from left to right, then tests tables or
+// walk.
+// Tables are tested at every combination that is not excused and walks at every step, straight from the definitions.
 // It leans on read, board, answer and outcome.
 
 use crate::answer::{Answer, Walk, LONGEST_WALK};
 use crate::board::{Board, Claim, Combination};
+use crate::job::Form;
 use crate::outcome::{Outcome, Refusal, ANSWER, JOB, TABLES, WALK};
 use crate::read::read_job;
 
@@ -16,8 +18,8 @@ const NO_STEP: u8 = 12;
 const NO_OPPOSITE: u8 = 13;
 
 /// What a call of the checker must answer.
-pub fn check_outcome(job: &[u8], answer: &[u8]) -> Outcome {
-    let job = match read_job(job) {
+pub fn check_outcome(form: Form, job: &[u8], answer: &[u8]) -> Outcome {
+    let job = match read_job(form, job) {
         Ok(job) => job,
         Err(refusal) => return Outcome::refused(refusal, JOB),
     };
@@ -39,7 +41,7 @@ fn test_tables(board: &Board, tables: &[Vec<u8>; 2]) -> Result<u8, Refusal> {
     for place in 0..board.combinations() {
         let combination = Combination(place);
         let values = [0, 1].map(|cell| tables[cell][board.shown(cell, combination)]);
-        if board.breaks(combination, values) {
+        if !board.is_excused(combination) && board.breaks(combination, values) {
             return Err(Refusal { code: RULE_BROKEN, place });
         }
     }

@@ -2,7 +2,7 @@
 // Where the damage alone settles the outcome, it is told along, so that this program's own reader is tested too.
 // It leans on random, job and outcome.
 
-use crate::job::{JobSheet, Mark};
+use crate::job::{Job, JobSheet, Mark};
 use crate::outcome::Refusal;
 use crate::random::Random;
 
@@ -14,18 +14,27 @@ pub struct Damaged {
 /// The accepted sheet with one damage.
 pub fn damage(sheet: &JobSheet, random: &mut Random) -> Damaged {
     let bytes = &sheet.bytes;
-    match random.below(12) {
+    match random.below(13) {
         0 => unknown(one_byte_changed(bytes, random)),
         1 => unknown(two_bytes_exchanged(bytes, random)),
         2 => unknown(byte_put_in_or_taken_out(bytes, random)),
         3 => unknown(count_at_its_limit(sheet, random)),
         4 => cut(bytes, random.below(bytes.len())),
         5 => cut_at_a_mark(sheet, random),
-        6 => bytes_over(bytes, random),
-        7 | 8 => count_above_its_limit(sheet, random),
-        9 | 10 => entry_too_high(sheet, random),
+        6 | 7 => bytes_over(bytes, random),
+        8 | 9 => count_above_its_limit(sheet, random),
+        10 | 11 => entry_too_high(sheet, random),
         _ => entry_not_rising(sheet, random),
     }
+}
+
+/// The job's sheet of form two with one damage to its last section, the excuses.
+pub fn damage_excuses(job: &Job, random: &mut Random) -> Damaged {
+    let (mut bytes, section) = (JobSheet::of(job).bytes, JobSheet::of_excuses(job));
+    let begin = bytes.len() - section.bytes.len();
+    let damaged = damage(&section, random);
+    bytes.splice(begin.., damaged.bytes);
+    Damaged { bytes, known: damaged.known.map(|refusal| Refusal { place: begin + refusal.place, ..refusal }) }
 }
 
 fn unknown(bytes: Vec<u8>) -> Damaged {
@@ -97,7 +106,9 @@ fn count_above_its_limit(sheet: &JobSheet, random: &mut Random) -> Damaged {
     let count = match random.below(4) {
         0 => random.within(limit + 1, highest),
         // A count whose low byte alone would pass.
-        1 if width == 2 => 256 * random.within(2, 255),
+        1 if width == 2 => 256 * random.within(limit / 256 + 1, 255),
+        // Often a count that another section permits.
+        2 => limit + random.within(1, 4),
         _ => limit + 1,
     };
     known(with_number(&sheet.bytes, offset, width, count), 2, offset)
@@ -112,7 +123,12 @@ fn entry_too_high(sheet: &JobSheet, random: &mut Random) -> Damaged {
     let Some((offset, limit)) = some_mark(sheet, random, limited) else {
         return cut_at_a_mark(sheet, random);
     };
-    let entry = if random.once_in(4) { random.within(limit, 255) } else { limit };
+    let entry = match random.below(4) {
+        0 => random.within(limit, 255),
+        // Often an entry that another section permits.
+        1 => limit + random.below(4),
+        _ => limit,
+    };
     known(with_number(&sheet.bytes, offset, 1, entry), 4, offset)
 }
 
@@ -135,7 +151,7 @@ fn some_count(sheet: &JobSheet, random: &mut Random) -> (usize, usize, usize) {
         Mark::Count { offset, width, limit } => Some((*offset, *width, *limit)),
         _ => None,
     };
-    some_mark(sheet, random, count).expect("every sheet has four counts")
+    some_mark(sheet, random, count).expect("every section has a count")
 }
 
 /// One of the marks that the choice accepts, if there is any.

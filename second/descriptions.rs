@@ -1,12 +1,13 @@
 // The cases of the writer: the papers' jobs and each refusal, then random descriptions, right and wrong.
 // A right description is read from a sheet, and the writer must give that sheet back to the byte.
 // What the command writes is read again and must be what was described; and its reader is asked for the same sheets.
+// The writer and what it writes are of form one.
 // It leans on make, read, description, distort, room and write.
 
 use crate::case::{hex, Call, Case, Judgement, Known, Response, USUAL_COUNT};
 use crate::description::{mask, Description, PINS, RULES, SEES};
 use crate::distort::distort;
-use crate::job::{term_limit, JobSheet, LONGEST_JOB, MOST_RULES, MOST_WIRES};
+use crate::job::{term_limit, Form, JobSheet, MOST_RULES, MOST_WIRES};
 use crate::jobs::READER;
 use crate::make::{longest_job, random_job, tied_job, to_bytes};
 use crate::named::ALL;
@@ -19,6 +20,7 @@ use crate::write::write;
 pub const WRITER: Call = Call {
     op: b'j',
     name: "write",
+    form: Form::One,
     writes: 1,
     count: USUAL_COUNT,
     codes: &[0, 2, 3, 4, 6],
@@ -34,12 +36,12 @@ pub const WRITTEN: Call = Call {
     name: "read what is written",
     count: 50_000,
     codes: &[0],
-    named: |random| written_sheets(named_descriptions(random)),
-    make: |random| written_sheets(random_descriptions(random)),
+    named: |form, random| written_sheets(named_descriptions(form, random)),
+    make: |form, random| written_sheets(random_descriptions(form, random)),
     ..READER
 };
 
-fn judge(slices: &[Vec<u8>], got: &Response) -> Judgement {
+fn judge(_: Form, slices: &[Vec<u8>], got: &Response) -> Judgement {
     let (described, before) = (Description::from_slices(slices), &slices[3]);
     match write(&described, before.len()) {
         Ok(sheet) => {
@@ -56,7 +58,7 @@ fn misread(described: &Description, got: &Response) -> Option<String> {
         return None;
     }
     let written = (got.outcome.written as usize).min(got.after[0].len());
-    match read_job(&got.after[0][..written]) {
+    match read_job(Form::One, &got.after[0][..written]) {
         Ok(job) if Description::of(&job) == *described => None,
         Ok(_) => Some("the sheet is read as another description".into()),
         Err(refusal) => Some(format!("the sheet is refused with {} at {}", refusal.code, refusal.place)),
@@ -77,10 +79,10 @@ fn no_room() -> Known {
     Known::Outcome(Outcome::no_room())
 }
 
-fn named_descriptions(random: &mut Random) -> Vec<Case> {
+fn named_descriptions(form: Form, random: &mut Random) -> Vec<Case> {
     let mut sheets: Vec<Vec<u8>> = ALL.iter().map(|sheet| hex(sheet)).collect();
     sheets.push(hex(&format!("00 00 00 00 01{}", " 00".repeat(MOST_RULES))));
-    sheets.push(JobSheet::of(&longest_job(random)).bytes);
+    sheets.push(JobSheet::of(&longest_job(form, random)).bytes);
     let mut cases = Vec::new();
     for sheet in sheets {
         let (described, length) = (described_by(&sheet), sheet.len());
@@ -91,7 +93,7 @@ fn named_descriptions(random: &mut Random) -> Vec<Case> {
             cases.push(case(&described, room, Some(no_room()), random));
         }
     }
-    for (room, named) in [(LONGEST_JOB, named_refusals()), (0, named_orders())] {
+    for (room, named) in [(form.longest(), named_refusals()), (0, named_orders())] {
         let made = |(described, known): Named| case(&described, room, Some(known), random);
         cases.extend(named.into_iter().map(made));
     }
@@ -100,7 +102,7 @@ fn named_descriptions(random: &mut Random) -> Vec<Case> {
 
 /// What a right sheet describes.
 fn described_by(sheet: &[u8]) -> Description {
-    Description::of(&read_job(sheet).expect("a right sheet"))
+    Description::of(&read_job(Form::One, sheet).expect("a right sheet"))
 }
 
 /// A description and what must come of it.
@@ -161,12 +163,12 @@ fn named_orders() -> Vec<Named> {
     ]
 }
 
-fn random_descriptions(random: &mut Random) -> Vec<Case> {
+fn random_descriptions(form: Form, random: &mut Random) -> Vec<Case> {
     if random.once_in(12) {
         let (described, room) = (any_description(random), random.within(0, 60));
         return vec![case(&described, room, None, random)];
     }
-    let job = if random.once_in(4) { tied_job(random) } else { random_job(random) };
+    let job = if random.once_in(4) { tied_job(form, random) } else { random_job(form, random) };
     let sheet = JobSheet::of(&job).bytes;
     let described = described_by(&sheet);
     let (enough, too_little) = (enough_room(sheet.len(), random), too_little_room(sheet.len(), random));

@@ -1,23 +1,49 @@
-// A job as plain lists, and its job sheet with a mark at every count and entry.
+// A job as plain lists, and its job sheet of either form with a mark at every count and entry.
 // The marks say where a sheet can be damaged and what a reader must answer to that.
 // It leans on nothing.
 
 pub const MOST_WIRES: usize = 12;
 pub const MOST_SEEN: usize = 8;
 pub const MOST_RULES: usize = 256;
-pub const LONGEST_JOB: usize = 7457;
+pub const MOST_EXCUSES: usize = 64;
+
+/// The form of a job sheet. Form two has a section more, the excuses.
+#[derive(Clone, Copy, Default, PartialEq, Eq, Debug)]
+pub enum Form {
+    #[default]
+    One,
+    Two,
+}
+
+impl Form {
+    /// The length of the longest sheet.
+    pub fn longest(self) -> usize {
+        match self {
+            Form::One => 7457,
+            Form::Two => 9059,
+        }
+    }
+}
 
 /// Terms below this number exist on a board of so many wires.
 pub fn term_limit(wires: usize) -> usize {
     2 * wires + 4
 }
 
+/// Those below this number are of wires, not of cells. Excuses have no others.
+pub fn wire_term_limit(wires: usize) -> usize {
+    2 * wires
+}
+
 #[derive(Clone, Default, PartialEq, Eq, Debug)]
 pub struct Job {
+    pub form: Form,
     pub pins: Vec<u8>,
     /// The wire positions that cells A and B see.
     pub sees: [Vec<u8>; 2],
     pub rules: Vec<Vec<u8>>,
+    /// There are none in form one.
+    pub excuses: Vec<Vec<u8>>,
 }
 
 impl Job {
@@ -48,11 +74,30 @@ impl JobSheet {
         for seen in &job.sees {
             sheet.put_list(seen, MOST_SEEN, Some(wires));
         }
-        sheet.put_count(job.rules.len(), 2, MOST_RULES);
-        for rule in &job.rules {
-            sheet.put_list(rule, term_limit(wires), Some(term_limit(wires)));
+        sheet.put_sets(&job.rules, MOST_RULES, term_limit(wires));
+        if job.form == Form::Two {
+            sheet.put_excuses(job);
         }
         sheet
+    }
+
+    /// The section of excuses alone, which is the last of a sheet of form two.
+    pub fn of_excuses(job: &Job) -> JobSheet {
+        let mut section = JobSheet::default();
+        section.put_excuses(job);
+        section
+    }
+
+    fn put_excuses(&mut self, job: &Job) {
+        self.put_sets(&job.excuses, MOST_EXCUSES, wire_term_limit(job.wires()));
+    }
+
+    /// Rules or excuses: sets of terms below the limit.
+    fn put_sets(&mut self, sets: &[Vec<u8>], most: usize, limit: usize) {
+        self.put_count(sets.len(), 2, most);
+        for set in sets {
+            self.put_list(set, limit, Some(limit));
+        }
     }
 
     fn put_count(&mut self, count: usize, width: usize, limit: usize) {

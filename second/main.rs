@@ -12,11 +12,14 @@ mod damage;
 mod description;
 mod descriptions;
 mod distort;
+mod excuses;
 mod expand;
+mod given;
 mod job;
 mod jobs;
 mod make;
 mod named;
+mod named_widenings;
 mod outcome;
 mod pipe;
 mod random;
@@ -44,9 +47,15 @@ use std::thread;
 
 const CALLS: &[Call] = &[
     jobs::READER,
+    jobs::READER.in_form_two(),
+    jobs::EXCUSES.in_form_two(),
     answers::CHECKER,
+    answers::CHECKER.in_form_two(),
     tasks::SOLVER,
+    tasks::SOLVER.in_form_two(),
+    tasks::WITHOUT_EXCUSES.in_form_two(),
     widenings::WIDENER,
+    widenings::WIDENER.in_form_two(),
     descriptions::WRITER,
     descriptions::WRITTEN,
 ];
@@ -124,13 +133,13 @@ fn compare_all(settings: &Settings) -> Result<usize, String> {
 fn report(call: &Call, tally: &Tally) -> Result<(), String> {
     let cases = tally.values().sum::<usize>();
     for (code, met) in tally {
-        println!("{}: code {code} met by {met} cases", call.name);
+        println!("{}: code {code} met by {met} cases", call);
     }
     for code in call.codes {
         let once_in = if call.foremost.contains(code) { FOREMOST_ONCE_IN } else { ONCE_IN };
         let (met, often) = (met(tally, *code), OFTEN.min(cases / once_in));
         if met < often {
-            return Err(format!("{}: code {code} is met by {met} cases, and {often} are wanted", call.name));
+            return Err(format!("{}: code {code} is met by {met} cases, and {often} are wanted", call));
         }
     }
     Ok(())
@@ -144,9 +153,9 @@ fn met(tally: &Tally, code: u64) -> usize {
 fn report_balance(call: &Call, tally: &Tally) -> Result<(), String> {
     let (tables, walks) = (met(tally, TABLES as u64), met(tally, WALK as u64));
     let answers = tables + walks;
-    println!("{}: {answers} boards answered, {tables} with tables and {walks} with a walk", call.name);
+    println!("{}: {answers} boards answered, {tables} with tables and {walks} with a walk", call);
     if answers >= FEW_ANSWERS && 100 * tables.min(walks) < LEAST_PART * answers {
-        return Err(format!("{}: tables and walks must each be {LEAST_PART} percent of the answers", call.name));
+        return Err(format!("{}: tables and walks must each be {LEAST_PART} percent of the answers", call));
     }
     Ok(())
 }
@@ -166,17 +175,17 @@ fn compare(call: &'static Call, settings: &Settings) -> Result<Tally, String> {
         }
         Err(Trouble::Differences) => {
             responses.stop();
-            Err(format!("{}: the command and the second program differ", call.name))
+            Err(format!("{}: the command and the second program differ", call))
         }
         Err(Trouble::NoResponse { answered, error }) => {
-            Err(format!("{}: {}", call.name, responses.explain(answered, error)))
+            Err(format!("{}: {}", call, responses.explain(answered, error)))
         }
     }
 }
 
 /// Makes the cases, writes each to the command, and hands it on for judgement. Stops if the command is gone.
 fn send_cases(call: &Call, mut requests: Requests, judge: Sender<Case>, mut random: Random, count: usize) {
-    let mut batch = (call.named)(&mut random);
+    let mut batch = (call.named)(call.form, &mut random);
     let mut sent = 0;
     loop {
         for case in batch {
@@ -189,7 +198,7 @@ fn send_cases(call: &Call, mut requests: Requests, judge: Sender<Case>, mut rand
         if sent >= count {
             return;
         }
-        batch = (call.make)(&mut random);
+        batch = (call.make)(call.form, &mut random);
     }
 }
 
@@ -204,7 +213,7 @@ fn judge_cases(call: &Call, cases: &Receiver<Case>, responses: &mut Responses) -
     for case in cases {
         let got = responses.next(&case, call.writes).map_err(|error| Trouble::NoResponse { answered, error })?;
         answered += 1;
-        let judgement = (call.judge)(&case.slices, &got);
+        let judgement = (call.judge)(call.form, &case.slices, &got);
         *tally.entry(judgement.expected.outcome.code).or_insert(0) += 1;
         if !agree(call, &case, &got, &judgement) {
             differences += 1;
@@ -226,7 +235,7 @@ fn agree(call: &Call, case: &Case, got: &Response, judgement: &Judgement) -> boo
     if got == expected && fault.is_none() && otherwise.is_none() {
         return true;
     }
-    println!("{}: responses differ", call.name);
+    println!("{}: responses differ", call);
     for slice in &case.slices[..case.slices.len() - call.writes] {
         println!("  slice of {} bytes: {}", slice.len(), to_hex(slice));
     }

@@ -1,11 +1,13 @@
 // Makes jobs near the line between tables and walk, on boards of every shape.
 // A long list of rules is cut where one rule more takes the last pair away; there an answer is hardest to find.
+// In form two a long list of excuses may be cut where one more lets a first pair fit.
 // How the wires that A sees lie to those that B sees is chosen, not left to chance.
-// It leans on random, job, make, board and solve.
+// It leans on random, job, make, excuses, board and solve.
 
 use crate::board::Board;
-use crate::job::{term_limit, Job, MOST_RULES, MOST_SEEN, MOST_WIRES};
-use crate::make::{always_holding, job_of_size, to_bytes};
+use crate::excuses::narrow_excuses;
+use crate::job::{term_limit, Form, Job, MOST_RULES, MOST_SEEN, MOST_WIRES};
+use crate::make::{job_of_size, to_bytes, with_negation};
 use crate::random::Random;
 use crate::solve::has_pair;
 
@@ -16,7 +18,7 @@ struct Shape {
 }
 
 /// A job near the line, most often on few wires.
-pub fn job_near_line(random: &mut Random) -> Job {
+pub fn job_near_line(form: Form, random: &mut Random) -> Job {
     let wires = match random.below(100) {
         0..=9 => random.within(0, 1),
         10..=59 => random.within(2, 5),
@@ -25,8 +27,12 @@ pub fn job_near_line(random: &mut Random) -> Job {
     };
     let shape = shape(random, wires);
     let guard = random.within(wires / 3, wires);
-    let mut job = with_rules(random, wires, shape, guard);
-    job = cut_near_line(random, job);
+    let mut job = with_rules(form, random, wires, shape, guard);
+    if form == Form::Two && random.once_in(3) {
+        excuse_near_line(random, &mut job);
+    } else {
+        cut_near_line(random, &mut job);
+    }
     if wires <= 8 && random.once_in(12) {
         pad(random, &mut job);
     }
@@ -34,12 +40,13 @@ pub fn job_near_line(random: &mut Random) -> Job {
 }
 
 /// A job near the line on one of the largest boards: all wires, and each cell sees as many as it may.
-pub fn largest_near_line(random: &mut Random) -> Job {
+pub fn largest_near_line(form: Form, random: &mut Random) -> Job {
     let shared = random.within(2 * MOST_SEEN - MOST_WIRES, MOST_SEEN);
     let shape = Shape { shared, own: [MOST_SEEN - shared; 2] };
     let guard = random.within(MOST_WIRES - 4, MOST_WIRES - 2);
-    let job = with_rules(random, MOST_WIRES, shape, guard);
-    cut_near_line(random, job)
+    let mut job = with_rules(form, random, MOST_WIRES, shape, guard);
+    cut_near_line(random, &mut job);
+    job
 }
 
 /// Equal, nested, overlapping, disjoint, or at least one empty.
@@ -77,8 +84,8 @@ fn size(random: &mut Random, least: usize, most: usize) -> usize {
 }
 
 /// A job of this shape with as many rules as there may be.
-fn with_rules(random: &mut Random, wires: usize, shape: Shape, guard: usize) -> Job {
-    let mut job = job_of_size(random, wires, 0);
+fn with_rules(form: Form, random: &mut Random, wires: usize, shape: Shape, guard: usize) -> Job {
+    let mut job = job_of_size(form, random, wires, 0);
     job.sees = seen_sets(random, wires, shape);
     let often_one_cell = random.once_in(3);
     job.rules = (0..MOST_RULES).map(|_| guarded_rule(random, wires, guard, often_one_cell)).collect();
@@ -115,11 +122,11 @@ fn guarded_rule(random: &mut Random, wires: usize, guard: usize, often_one_cell:
     to_bytes(rule)
 }
 
-/// The job with only the first of its rules: so many that a pair fits and with one more none does, or about that.
+/// Leaves only the first of the rules: so many that a pair fits and with one more none does, or about that.
 /// The rule that decides is then the last, or anywhere.
-fn cut_near_line(random: &mut Random, mut job: Job) -> Job {
+fn cut_near_line(random: &mut Random, job: &mut Job) {
     let all = job.rules.len();
-    let fewest = fewest_without_pair(&job);
+    let fewest = fewest_not(all, |count| fits(job, count, job.excuses.len()));
     let count = match random.below(10) {
         _ if fewest > all => random.within(all / 2, all),
         0 => random.within(fewest * 3 / 4, fewest - 1),
@@ -131,23 +138,43 @@ fn cut_near_line(random: &mut Random, mut job: Job) -> Job {
     if random.once_in(2) {
         random.shuffle(&mut job.rules);
     }
-    job
 }
 
-/// The fewest of its rules, from the first on, that no pair fits; one more than it has if a pair fits them all.
-fn fewest_without_pair(job: &Job) -> usize {
+/// Leaves a few rules more than a pair fits, and then puts excuses: so few that no pair fits and with one more a pair
+/// does, or just as many as that takes. Any number where that is out of reach.
+fn excuse_near_line(random: &mut Random, job: &mut Job) {
     let all = job.rules.len();
-    let fits = |count: usize| {
-        let (pins, sees, rules) = (job.pins.clone(), job.sees.clone(), job.rules[..count].to_vec());
-        has_pair(&Board::of(Job { pins, sees, rules }))
+    let fewest = fewest_not(all, |count| fits(job, count, 0));
+    job.rules.truncate(random.within(fewest, fewest * 5 / 4));
+    job.excuses = narrow_excuses(random, job.wires());
+    let (rules, all) = (job.rules.len(), job.excuses.len());
+    let count = match fewest_not(all, |count| !fits(job, rules, count)) {
+        fewest if fewest > all => random.within(0, all),
+        fewest => fewest - random.below(2),
     };
+    job.excuses.truncate(count);
+    if random.once_in(2) {
+        random.shuffle(&mut job.excuses);
+    }
+}
+
+/// Whether a pair fits the job with only so many of its rules and of its excuses, from the first on.
+fn fits(job: &Job, rules: usize, excuses: usize) -> bool {
+    let (form, pins, sees) = (job.form, job.pins.clone(), job.sees.clone());
+    let (rules, excuses) = (job.rules[..rules].to_vec(), job.excuses[..excuses].to_vec());
+    has_pair(&Board::of(Job { form, pins, sees, rules, excuses }))
+}
+
+/// The lowest number from 1 on of which it is not true; one more than the most if it is true of all.
+/// It must be true of every number below one of which it is.
+fn fewest_not(most: usize, is_true: impl Fn(usize) -> bool) -> usize {
     let (mut with, mut without) = (0, 1);
-    while without <= all && fits(without) {
-        (with, without) = (without, (2 * without).min(all + 1));
+    while without <= most && is_true(without) {
+        (with, without) = (without, (2 * without).min(most + 1));
     }
     while without - with > 1 {
         let middle = (with + without) / 2;
-        if fits(middle) {
+        if is_true(middle) {
             with = middle;
         } else {
             without = middle;
@@ -163,7 +190,7 @@ fn pad(random: &mut Random, job: &mut Job) {
     let count = if random.once_in(3) { MOST_RULES } else { random.within(asked, MOST_RULES) };
     while job.rules.len() < count {
         let mut rule = match asked == 0 || random.once_in(2) {
-            true => always_holding(random, terms),
+            true => with_negation(random, terms),
             false => job.rules[random.below(asked)].clone(),
         };
         let absent: Vec<u8> = (0..terms as u8).filter(|term| !rule.contains(term)).collect();

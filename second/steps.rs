@@ -1,6 +1,7 @@
 // Every step of a board, found rule by rule.
 // A rule is broken where all its terms are false: what it names is set by that, and the rest runs free.
-// So no rule is evaluated anywhere, which is what board does from the definitions.
+// An excuse holds where all its terms are true, and what is broken there leads to no step.
+// So no rule and no excuse is evaluated anywhere, which is what board does from the definitions.
 // It leans on board, answer and random.
 
 use crate::answer::Walk;
@@ -35,6 +36,15 @@ impl Steps {
 
     pub fn from(&self, claim: Claim) -> &[(Claim, Combination)] {
         &self.from[claim.0]
+    }
+
+    /// The first entry of a walk whose step is not among these.
+    pub fn first_missing(&self, walk: &Walk) -> Option<usize> {
+        (0..walk.len()).find(|entry| {
+            let (claim, combination) = walk[*entry];
+            let (next, _) = walk[(entry + 1) % walk.len()];
+            !self.from(claim).contains(&(next, combination))
+        })
     }
 
     /// Puts the steps of each claim in random order, so that paths vary.
@@ -77,25 +87,32 @@ impl Steps {
     }
 }
 
-/// Whether some rule is broken, for every state: a combination, and above its bits A's value and B's.
+/// Whether some rule is broken by a combination that is not excused, for every state: the combination, and above its
+/// bits A's value and B's.
 fn broken_states(board: &Board) -> Vec<bool> {
     let variables = board.wires() + 2;
     let mut broken = vec![false; 1 << variables];
     for rule in board.rules() {
-        for state in states_breaking(rule, variables) {
+        for state in states_without(rule, variables) {
             broken[state] = true;
+        }
+    }
+    for excuse in board.excuses() {
+        let opposite: Vec<u8> = excuse.iter().map(|term| term ^ 1).collect();
+        for state in states_without(&opposite, variables) {
+            broken[state] = false;
         }
     }
     broken
 }
 
-/// The states in which every term of the rule is false. There are none if it holds a term and its negation.
-fn states_breaking(rule: &[u8], variables: usize) -> Vec<usize> {
+/// The states in which every term of the set is false. There are none if it holds a term and its negation.
+fn states_without(set: &[u8], variables: usize) -> Vec<usize> {
     let mut states = vec![0];
     for variable in 0..variables {
         let (plain, negated) = (2 * variable as u8, 2 * variable as u8 + 1);
         let weight = 1 << variable;
-        match (rule.contains(&plain), rule.contains(&negated)) {
+        match (set.contains(&plain), set.contains(&negated)) {
             (true, true) => return Vec::new(),
             (true, false) => {}
             (false, true) => states.iter_mut().for_each(|state| *state += weight),

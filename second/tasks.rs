@@ -1,4 +1,4 @@
-// The cases of the solver: the jobs that document 01 names, then random boards of every shape.
+// The cases of the solver: the jobs that the papers name, then random boards of every shape.
 // Most of these lie near the line between tables and walk, where one rule decides.
 // Answer buffers are full of random bytes, with room enough or too little.
 // Small boards are settled by trying every pair in order, so that this program's own solver is tested too.
@@ -9,9 +9,10 @@ use crate::board::Board;
 use crate::case::{hex, Call, Case, Judgement, Known, Response};
 use crate::check::check;
 use crate::damage::damage;
-use crate::job::{Job, JobSheet, MOST_RULES, MOST_WIRES};
+use crate::job::{Form, Job, JobSheet, MOST_RULES, MOST_WIRES};
 use crate::make::{fitting_job, job_of_size, longest_job, random_job, tied_job};
-use crate::named::{EQUAL_AS_WIRES, J1, J2, J3, J4, J5, J6, J6_WIDENED, J7};
+use crate::named::{in_form, with_excuses, EQUAL_AS_WIRES, J1, J2, J3, J4, J5, J6, J6_WIDENED, J7};
+use crate::named::{EMPTY, FIRST_IS_0, FIRST_IS_1, FIRST_IS_BOTH, FIRST_IS_EITHER, NONE, NOT_BOTH_HIGH, SPEED_WIRES};
 use crate::outcome::{Outcome, Refusal, JOB, TABLES, WALK};
 use crate::random::Random;
 use crate::read::read_job;
@@ -27,6 +28,7 @@ const FEW_WIRES: usize = 5;
 pub const SOLVER: Call = Call {
     op: b's',
     name: "solve",
+    form: Form::One,
     writes: 1,
     count: 23_000,
     codes: &[1, 2, 3, 4, 5, 6, 20, 21],
@@ -37,12 +39,20 @@ pub const SOLVER: Call = Call {
     judge,
 };
 
+/// The solver in form two, on the accepted sheets of form one's cases, each with an empty section of excuses: with one
+/// seed those that it has just solved in form one. The tables must be the same, or a walk must come both times.
+pub const WITHOUT_EXCUSES: Call = Call {
+    name: "solve without excuses",
+    count: 6_000,
+    codes: &[6, 20, 21],
+    named: |form, random| without_excuses(form, named_tasks(Form::One, random)),
+    make: |form, random| without_excuses(form, random_tasks(Form::One, random)),
+    ..SOLVER
+};
+
 /// The paper's jobs with its answers. Several walks may stand, so a walk is only known to be one.
-fn named_tasks(random: &mut Random) -> Vec<Case> {
-    let tables = |a: &[u8], b: &[u8]| Known::Wrote(TABLES, Answer::Tables([a.to_vec(), b.to_vec()]).sheet());
-    let no_room = || Known::Outcome(Outcome::no_room());
-    let of_job = |code, place| Known::Outcome(Outcome::refused(Refusal { code, place }, JOB));
-    let cases = [
+fn named_tasks(form: Form, random: &mut Random) -> Vec<Case> {
+    let jobs = [
         (J1, ROOM, Known::Wrote(TABLES, hex("01 00 00 01 00 00 00 00"))),
         (J2, ROOM, tables(&[0, 0], &[1, 1])),
         (J3, ROOM, Known::Walk),
@@ -59,20 +69,74 @@ fn named_tasks(random: &mut Random) -> Vec<Case> {
         (J1, 8, no_room()),
         (J1, 0, no_room()),
         (J4, 0, no_room()),
-        // A fault of the job comes before the want of room.
-        ("", 0, of_job(1, 0)),
-        ("", ROOM, of_job(1, 0)),
-        ("0D", ROOM - 1, of_job(2, 0)),
-        ("00 00 00 00 00 00", 0, of_job(5, 5)),
     ];
-    cases.map(|(job, room, known)| case(hex(job), room, Some(known), random)).into()
+    let mut cases: Vec<Case> =
+        jobs.map(|(job, room, known)| case(in_form(form, job), room, Some(known), random)).into();
+
+    // A fault of the job comes before the want of room.
+    let of_job = |code, place| Some(Known::Outcome(Outcome::refused(Refusal { code, place }, JOB)));
+    let over = [in_form(form, J1), vec![0]].concat();
+    let length = over.len();
+    cases.push(case(hex(""), 0, of_job(1, 0), random));
+    cases.push(case(hex(""), ROOM, of_job(1, 0), random));
+    cases.push(case(hex("0D"), ROOM - 1, of_job(2, 0), random));
+    cases.push(case(over, 0, of_job(5, length - 1), random));
+    if form == Form::Two {
+        cases.extend(named_excused(random));
+    }
+    cases
 }
 
-fn random_tasks(random: &mut Random) -> Vec<Case> {
-    if random.once_in(9) {
-        return vec![refused_task(random)];
+/// Jobs of document 01 with excuses.
+fn named_excused(random: &mut Random) -> Vec<Case> {
+    let jobs = [
+        (J4, EMPTY, tables(&[0], &[0])),
+        (J3, EMPTY, tables(&[0, 0], &[0, 0])),
+        (J2, FIRST_IS_0, tables(&[0, 0], &[0, 1])),
+        (J2, FIRST_IS_1, tables(&[0, 0], &[1, 0])),
+        (J2, FIRST_IS_BOTH, tables(&[0, 0], &[1, 1])),
+        (J2, FIRST_IS_EITHER, tables(&[0, 0], &[0, 0])),
+        (J7, FIRST_IS_0, tables(&[0], &[1])),
+        (J7, FIRST_IS_1, tables(&[0], &[0])),
+        (J7, FIRST_IS_BOTH, Known::Walk),
+        (SPEED_WIRES, NOT_BOTH_HIGH, tables(&[0, 1], &[0, 1])),
+        (SPEED_WIRES, NONE, Known::Walk),
+    ];
+    jobs.map(|(job, excuses, known)| case(with_excuses(job, excuses), ROOM, Some(known), random)).into()
+}
+
+fn tables(a: &[u8], b: &[u8]) -> Known {
+    Known::Wrote(TABLES, Answer::Tables([a.to_vec(), b.to_vec()]).sheet())
+}
+
+fn no_room() -> Known {
+    Known::Outcome(Outcome::no_room())
+}
+
+/// The cases of form one whose jobs are accepted, in this form, with what form one makes of them.
+fn without_excuses(form: Form, cases: Vec<Case>) -> Vec<Case> {
+    let moved = |case: Case| {
+        let job = read_job(Form::One, &case.slices[0]).ok()?;
+        let sheet = JobSheet::of(&Job { form, ..job.clone() }).bytes;
+        let room = case.slices[1].clone();
+        let known = if room.len() < ROOM { no_room() } else { by_solving(&Board::of(job)) };
+        Some(Case { slices: vec![sheet, room], known: Some(known) })
+    };
+    cases.into_iter().filter_map(moved).collect()
+}
+
+fn by_solving(board: &Board) -> Known {
+    match solve(board) {
+        Answer::Walk(_) => Known::Walk,
+        answer => Known::Wrote(TABLES, answer.sheet()),
     }
-    let job = task_job(random);
+}
+
+fn random_tasks(form: Form, random: &mut Random) -> Vec<Case> {
+    if random.once_in(9) {
+        return vec![refused_task(form, random)];
+    }
+    let job = task_job(form, random);
     let sheet = JobSheet::of(&job).bytes;
     let board = Board::of(job);
     let few = board.all_rows() <= FEW_ROWS && board.wires() <= FEW_WIRES;
@@ -82,31 +146,31 @@ fn random_tasks(random: &mut Random) -> Vec<Case> {
 }
 
 /// A job of any family. Large boards take long, so there are few of them.
-fn task_job(random: &mut Random) -> Job {
+fn task_job(form: Form, random: &mut Random) -> Job {
     match random.below(1000) {
-        0..=13 => largest_near_line(random),
-        14 => job_of_size(random, MOST_WIRES, MOST_RULES),
-        15 => fitting_job(random, MOST_WIRES, MOST_RULES),
-        16 => longest_job(random),
-        17..=80 => ring_job(random),
-        81..=160 => chain_job(random),
-        161..=220 => random_job(random),
-        221..=350 => tied_job(random),
+        0..=13 => largest_near_line(form, random),
+        14 => job_of_size(form, random, MOST_WIRES, MOST_RULES),
+        15 => fitting_job(form, random, MOST_WIRES, MOST_RULES),
+        16 => longest_job(form, random),
+        17..=80 => ring_job(form, random),
+        81..=160 => chain_job(form, random),
+        161..=220 => random_job(form, random),
+        221..=350 => tied_job(form, random),
         351..=380 => {
             let (wires, rules) = (random.within(0, 7), random.within(0, 20));
-            fitting_job(random, wires, rules)
+            fitting_job(form, random, wires, rules)
         }
-        _ => job_near_line(random),
+        _ => job_near_line(form, random),
     }
 }
 
 /// A job with a fault and any room, or one without a fault and too little room.
-fn refused_task(random: &mut Random) -> Case {
-    let job = if random.once_in(2) { random_job(random) } else { tied_job(random) };
+fn refused_task(form: Form, random: &mut Random) -> Case {
+    let job = if random.once_in(2) { random_job(form, random) } else { tied_job(form, random) };
     let sheet = JobSheet::of(&job);
     let room = too_little_room(ROOM, random);
     if random.once_in(4) {
-        return case(sheet.bytes, room, Some(Known::Outcome(Outcome::no_room())), random);
+        return case(sheet.bytes, room, Some(no_room()), random);
     }
     let damaged = damage(&sheet, random);
     let known = damaged.known.map(|refusal| Known::Outcome(Outcome::refused(refusal, JOB)));
@@ -132,9 +196,9 @@ fn by_trying(board: &Board) -> Known {
     Known::Walk
 }
 
-fn judge(slices: &[Vec<u8>], got: &Response) -> Judgement {
+fn judge(form: Form, slices: &[Vec<u8>], got: &Response) -> Judgement {
     let (job, before) = (&slices[0], &slices[1]);
-    let job = match read_job(job) {
+    let job = match read_job(form, job) {
         Ok(job) => job,
         Err(refusal) => return Judgement::writing(Outcome::refused(refusal, JOB), &[], before),
     };

@@ -2,7 +2,7 @@
 // Their walks are long, and what one row holds is settled far away.
 // It leans on random, job and make.
 
-use crate::job::{Job, MOST_WIRES};
+use crate::job::{Form, Job, MOST_WIRES};
 use crate::make::{job_of_size, to_bytes};
 use crate::random::Random;
 
@@ -35,8 +35,8 @@ impl Halves {
     }
 
     /// The job with these rules.
-    fn job(self, random: &mut Random, rules: Vec<Vec<usize>>) -> Job {
-        let mut job = job_of_size(random, self.wires, 0);
+    fn job(self, form: Form, random: &mut Random, rules: Vec<Vec<usize>>) -> Job {
+        let mut job = job_of_size(form, random, self.wires, 0);
         job.sees = self.seen.map(to_bytes);
         job.rules = rules.into_iter().map(to_bytes).collect();
         job
@@ -65,7 +65,7 @@ fn half_of_the_wires(random: &mut Random) -> usize {
 }
 
 /// A job whose rules tie rows of A and B in one long ring, each two equal or unequal.
-pub fn ring_job(random: &mut Random) -> Job {
+pub fn ring_job(form: Form, random: &mut Random) -> Job {
     let half = half_of_the_wires(random);
     let mut halves = Halves::of(random, half);
     halves.shuffle(random);
@@ -77,12 +77,12 @@ pub fn ring_job(random: &mut Random) -> Job {
         rules.push([guard.clone(), vec![a, b]].concat());
         rules.push([guard, vec![a ^ 1, b ^ 1]].concat());
     }
-    halves.job(random, rules)
+    halves.job(form, random, rules)
 }
 
 /// A job whose rules tie rows in one long chain. At its end no value is right, or one, or any.
 /// In half of them the chain begins with row 0 of A, so that the first row looked at is farthest from the end.
-pub fn chain_job(random: &mut Random) -> Job {
+pub fn chain_job(form: Form, random: &mut Random) -> Job {
     let half = half_of_the_wires(random);
     let mut halves = Halves::of(random, half);
     if random.once_in(2) {
@@ -102,7 +102,7 @@ pub fn chain_job(random: &mut Random) -> Job {
     }
     rules.extend(end_of_chain(random, &halves, halves.guard(last, ties_of_each)));
     random.shuffle(&mut rules);
-    halves.job(random, rules)
+    halves.job(form, random, rules)
 }
 
 /// The rules at the combination of the last tie.

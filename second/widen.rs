@@ -1,11 +1,11 @@
-// Widens an answer by document 01: from a job P and tables for it to tables for a job Q that asks no more.
+// Widens an answer by the papers: from a job P and tables for it to tables for a job Q that asks no more.
 // The widened table comes from the combinations: each shows one row of P's cell and one of Q's, with one value.
 // It leans on read, check, board, answer, room and outcome.
 
 use crate::answer::Answer;
 use crate::board::{Board, Combination};
 use crate::check::{check, read_answer};
-use crate::job::Job;
+use crate::job::{Form, Job};
 use crate::outcome::{Outcome, Refusal, ANSWER, JOB, JOB_Q, TABLES};
 use crate::read::read_job;
 use crate::room::ROOM;
@@ -14,9 +14,9 @@ const ASKS_MORE: u8 = 14;
 const WALK_GIVEN: u8 = 15;
 
 /// The tables sheet for Q that a call of the widener must write, or the refusal.
-pub fn widen(p: &[u8], q: &[u8], answer: &[u8], room: usize) -> Result<Vec<u8>, Outcome> {
-    let p = read_job(p).map_err(|refusal| Outcome::refused(refusal, JOB))?;
-    let q = read_job(q).map_err(|refusal| Outcome::refused(refusal, JOB_Q))?;
+pub fn widen(form: Form, p: &[u8], q: &[u8], answer: &[u8], room: usize) -> Result<Vec<u8>, Outcome> {
+    let p = read_job(form, p).map_err(|refusal| Outcome::refused(refusal, JOB))?;
+    let q = read_job(form, q).map_err(|refusal| Outcome::refused(refusal, JOB_Q))?;
     let board = Board::of(p.clone());
     let of_answer = |refusal| Outcome::refused(refusal, ANSWER);
     check(&board, answer).map_err(of_answer)?;
@@ -51,6 +51,7 @@ fn asks_no_more(q: &Job, p: &Job) -> bool {
     q.pins == p.pins
         && (0..2).all(|cell| contains_all(&q.sees[cell], &p.sees[cell]))
         && q.rules.iter().all(|rule| p.rules.iter().any(|asked| contains_all(rule, asked)))
+        && p.excuses.iter().all(|excuse| q.excuses.iter().any(|wider| contains_all(excuse, wider)))
 }
 
 /// The values of the wider board's rows. Combinations that show the same row of it must agree on its value.

@@ -1,12 +1,14 @@
 // Makes jobs that ask no more than a given one, in every way there is, and jobs that just fail to.
-// It says what a widener must come to in its own way: tables grow wire by wire, rules are compared as masks.
-// It leans on random, job and make.
+// It says what a widener must come to in its own way: tables grow wire by wire, sets of terms are compared as masks.
+// It leans on random, job, make and excuses.
 
-use crate::job::{term_limit, Job, MOST_RULES, MOST_SEEN, MOST_WIRES};
-use crate::make::{always_holding, to_bytes};
+use crate::excuses::{covering_excuses, is_within, uncover_excuse};
+use crate::job::{term_limit, Form, Job, MOST_RULES, MOST_SEEN, MOST_WIRES};
+use crate::make::{to_bytes, with_negation};
 use crate::random::Random;
 
-/// A job that asks no more than P: its cells may see more, and each of its rules has one of P's within it.
+/// A job that asks no more than P: its cells may see more, each of its rules has one of P's within it, and each of P's
+/// excuses has one of its own within it.
 pub fn asking_no_more(p: &Job, random: &mut Random) -> Job {
     let mut q = p.clone();
     let seeing_more: &[usize] = *random.choose(&[&[][..], &[0], &[1], &[0, 1], &[0, 1]]);
@@ -14,6 +16,9 @@ pub fn asking_no_more(p: &Job, random: &mut Random) -> Job {
         see_more(&mut q, *cell, random);
     }
     q.rules = chosen_rules(p, random);
+    if p.form == Form::Two {
+        q.excuses = covering_excuses(p, random);
+    }
     if random.once_in(3) {
         return q;
     }
@@ -87,6 +92,7 @@ pub fn near_miss(p: &Job, random: &mut Random) -> (Job, bool) {
     let mut q = if random.once_in(3) { p.clone() } else { asking_no_more(p, random) };
     let wires = p.wires();
     match random.below(14) {
+        _ if !p.excuses.is_empty() && random.once_in(3) => uncover_excuse(p, &mut q, random),
         0 | 1 if wires > 0 => exchange_pin(&mut q, random),
         2 if wires < MOST_WIRES => add_wire(&mut q, random),
         3 if wires > 0 => remove_wire(&mut q, random),
@@ -94,16 +100,12 @@ pub fn near_miss(p: &Job, random: &mut Random) -> (Job, bool) {
         7 if p.sees[0] != p.sees[1] => q.sees = [p.sees[1].clone(), p.sees[0].clone()],
         _ => {
             let rule = odd_rule(p, random);
-            let certain = !p.rules.iter().any(|asked| mask(asked) & !mask(&rule) == 0);
+            let certain = !p.rules.iter().any(|asked| is_within(asked, &rule));
             put_rule(&mut q, rule, random);
             return (q, certain);
         }
     }
     (q, true)
-}
-
-fn mask(rule: &[u8]) -> u32 {
-    rule.iter().map(|term| 1 << term).sum()
 }
 
 fn exchange_pin(q: &mut Job, random: &mut Random) {
@@ -133,7 +135,7 @@ fn add_wire(q: &mut Job, random: &mut Random) {
     }
 }
 
-/// The last wire gone, from the cells and the rules too.
+/// The last wire gone, from the cells, the rules and the excuses too.
 fn remove_wire(q: &mut Job, random: &mut Random) {
     q.pins.pop();
     let wires = q.wires() as u8;
@@ -142,6 +144,9 @@ fn remove_wire(q: &mut Job, random: &mut Random) {
     }
     if random.once_in(4) {
         q.rules.clear();
+    }
+    for excuse in &mut q.excuses {
+        excuse.retain(|term| term / 2 != wires);
     }
     for rule in &mut q.rules {
         rule.retain(|term| term / 2 != wires);
@@ -170,7 +175,7 @@ fn odd_rule(p: &Job, random: &mut Random) -> Vec<u8> {
     let lacking = p.rules.iter().any(|rule| !rule.is_empty());
     match random.below(10) {
         0..=3 if lacking => lacking_a_term(p, random),
-        4 | 5 => always_holding(random, terms),
+        4 | 5 => with_negation(random, terms),
         6 | 7 => following(p, random).unwrap_or_default(),
         8 => Vec::new(),
         _ => {

@@ -1,16 +1,17 @@
 // Writes the job sheet of a description by request 1 of document 02, or refuses the description.
 // The sheet is drafted as if nothing could be wrong, and this program's own reader finds the draft's first fault.
 // Each byte of the draft knows its section, and the place there that is named for a fault at it.
-// It leans on description, read and outcome.
+// It leans on description, job, read and outcome.
 
 use crate::description::{members, Description, PINS, RULES, SEES};
+use crate::job::Form;
 use crate::outcome::{Outcome, Refusal};
 use crate::read::read_job;
 
 /// The sheet that a call of the writer must write, or the refusal.
 pub fn write(described: &Description, room: usize) -> Result<Vec<u8>, Outcome> {
     let draft = Draft::of(described);
-    if let Err(Refusal { code, place: offset }) = read_job(&draft.bytes) {
+    if let Err(Refusal { code, place: offset }) = read_job(Form::One, &draft.bytes) {
         let (section, place) = draft.homes[offset];
         return Err(Outcome::refused(Refusal { code, place }, section));
     }
