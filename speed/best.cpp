@@ -521,7 +521,7 @@ uint64_t best_solve(const uint8_t *sheet, size_t sheet_len, uint8_t *answer, siz
     tables to = {};
     failure failed;
     if (!read_board(sheet, sheet_len, on))
-        return plain_read_job(sheet, sheet_len, refused);
+        return plain_read_job(form::one, sheet, sheet_len, refused);
     if (answer_len < LONGEST_ANSWER)
         return NO_ROOM;
     fill_steps(on);

@@ -1,10 +1,9 @@
-/* speed/judge.cpp: the judge of answers. Tables fit if every rule holds at every combination; a walk stands if each
- * step holds, the last back to the first claim, and the opposite of the first claim is among the claims.
+/* speed/judge.cpp: the judge of answers. Tables fit if every rule holds at every combination that is not excused; a
+ * walk stands if each step holds, by one of those, the last back to the first claim, and the opposite of the first
+ * claim is among the claims.
  * Leans on nothing of the solvers but the reader.
  */
 #include "judge.h"
-
-#include "plain.h"
 
 namespace {
 
@@ -21,13 +20,16 @@ unsigned row_shown(uint32_t seen, unsigned combination)
     return row;
 }
 
-/* Whether some rule is broken at a combination with A at x and B at y. */
+/* Whether some rule is broken at a combination that is not excused, with A at x and B at y. */
 bool breaks(const job &on, unsigned combination, unsigned x, unsigned y)
 {
     unsigned values = combination | x << on.wires | y << (on.wires + 1);
     uint32_t truths = 0;
     for (unsigned variable = 0; variable < on.wires + 2; variable++)
         truths |= 1u << (2 * variable + !(values >> variable & 1));
+    for (unsigned excuse = 0; excuse < on.excuse_count; excuse++)
+        if (!(on.excuses[excuse] & ~truths))
+            return false;
     for (unsigned rule = 0; rule < on.rule_count; rule++)
         if (!(on.rules[rule] & truths))
             return true;
@@ -78,10 +80,10 @@ bool tables_fit(const job &on, const uint8_t *a, const uint8_t *b)
 
 }
 
-bool judge_answer(const uint8_t *sheet, size_t sheet_len, const uint8_t *answer, size_t answer_len)
+bool judge_answer(form of, const uint8_t *sheet, size_t sheet_len, const uint8_t *answer, size_t answer_len)
 {
     job on;
-    if (plain_read_job(sheet, sheet_len, on) != 0 || answer_len < 6)
+    if (plain_read_job(of, sheet, sheet_len, on) != 0 || answer_len < 6)
         return false;
     if (two(answer) == 0) {
         unsigned count = two(answer + 4);

@@ -7,7 +7,9 @@
 #include <stddef.h>
 #include <stdint.h>
 
-/* Whether the answer is a sheet of tables that fit the job, or of a walk that stands. */
-bool judge_answer(const uint8_t *job, size_t job_len, const uint8_t *answer, size_t answer_len);
+#include "plain.h"
+
+/* Whether the answer is a sheet of tables that fit the job, or of a walk that stands. The job is of the form named. */
+bool judge_answer(form of, const uint8_t *job, size_t job_len, const uint8_t *answer, size_t answer_len);
 
 #endif

@@ -61,10 +61,10 @@ template <auto &write> uint64_t writes(const lent &by, uint8_t *out)
 }
 
 /* Whether what was written is an answer for the last job lent. */
-bool answers(const lent &by, const uint8_t *out, size_t written)
+template <form of> bool answers(const lent &by, const uint8_t *out, size_t written)
 {
     const sheet &job = by.wide.empty() ? by.job : by.wide;
-    return judge_answer(job.data(), job.size(), out, written);
+    return judge_answer(of, job.data(), job.size(), out, written);
 }
 
 /* Whether what was written is the job. */
@@ -82,9 +82,15 @@ struct work {
 
 const work reading = {"read", {reads<ormsvelg_read>, reads<plain_read>, nullptr}, nullptr};
 const work checking = {"check", {checks<ormsvelg_check>, checks<plain_check>, nullptr}, nullptr};
-const work solving = {"solve", {solves<ormsvelg_solve>, solves<plain_solve>, solves<best_solve>}, answers};
-const work widening = {"widen", {widens<ormsvelg_widen>, widens<plain_widen>, nullptr}, answers};
+const work solving = {"solve", {solves<ormsvelg_solve>, solves<plain_solve>, solves<best_solve>}, answers<form::one>};
+const work widening = {"widen", {widens<ormsvelg_widen>, widens<plain_widen>, nullptr}, answers<form::one>};
 const work writing = {"write", {writes<ormsvelg_write>, writes<plain_write>, nullptr}, is_job};
+
+/* The same with job sheets of form two. */
+const work reading_two = {"read", {reads<ormsvelg_read_two>, reads<plain_read_two>, nullptr}, nullptr};
+const work checking_two = {"check", {checks<ormsvelg_check_two>, checks<plain_check_two>, nullptr}, nullptr};
+const work solving_two = {"solve", {solves<ormsvelg_solve_two>, solves<plain_solve_two>, nullptr}, answers<form::two>};
+const work widening_two = {"widen", {widens<ormsvelg_widen_two>, widens<plain_widen_two>, nullptr}, answers<form::two>};
 
 /* A line of the table: what is timed, and what is only tried, for the same outcome. */
 struct line {
@@ -169,9 +175,9 @@ void compare(const line &of)
     fflush(stdout);
 }
 
-line read_line(const char *name, const sheet &job)
+line read_line(const work &of, const char *name, const sheet &job)
 {
-    return {reading, name, {{job, {}, {}, ORMSVELG_ACCEPTED}}, {{{job.begin(), job.end() - 1}, {}, {}, ORMSVELG_ENDS}}};
+    return {of, name, {{job, {}, {}, ORMSVELG_ACCEPTED}}, {{{job.begin(), job.end() - 1}, {}, {}, ORMSVELG_ENDS}}};
 }
 
 /* The tables fit. With A's row 0 turned they break a rule, or with B's row 255, and both say at which combination. */
@@ -217,13 +223,75 @@ line widen_line()
 line write_line(const char *name, const sheet &job)
 {
     lent exact = {job, {}, {}, ORMSVELG_ACCEPTED, {}, job.size()};
-    plain_read_job(job.data(), job.size(), exact.described);
+    plain_read_job(form::one, job.data(), job.size(), exact.described);
     lent tight = exact, beyond = exact;
     tight.code = ORMSVELG_NO_ROOM;
     tight.room--;
     beyond.code = ORMSVELG_TOO_HIGH;
     beyond.described.rules[exact.described.rule_count - 1] = UINT32_C(1) << 31;
     return {writing, name, {exact}, {tight, beyond}};
+}
+
+/* ---- form two: jobs of the lines above with excuses */
+
+sheet joined(sheet job, const sheet &excuses)
+{
+    job.insert(job.end(), excuses.begin(), excuses.end());
+    return job;
+}
+
+sheet excuses_of(unsigned terms)
+{
+    sheet section(LONGEST_EXCUSES);
+    section.resize(mixed_excuses(section.data(), terms));
+    return section;
+}
+
+line excused_read_line(const sheet &longest)
+{
+    sheet section(LONGEST_EXCUSES);
+    section.resize(longest_excuses(section.data()));
+    return read_line(reading_two, "form two: longest sheet, 9059 bytes", joined(longest, section));
+}
+
+/* With 6 terms each excuse holds at 64 combinations. The codes are those of plain C++. */
+line excused_check_line(const line &from)
+{
+    line made = {checking_two, "form two: 12 wires, 256 rules, 64 excuses", {}, {}};
+    for (const std::vector<lent> *all : {&from.timed, &from.tried})
+        for (lent by : *all) {
+            by.job = joined(by.job, excuses_of(6));
+            by.code = checks<plain_check_two>(by, nullptr) % 256;
+            (all == &from.timed ? made.timed : made.tried).push_back(by);
+        }
+    return made;
+}
+
+line excused_solve_line(const family &of)
+{
+    line made = {solving_two, "form two, 64 excuses: " + of.name.substr(0, of.name.find(':')), {}, {}};
+    for (const sheet &job : of.sheets) {
+        uint8_t out[LONGEST_ANSWER];
+        lent by = {joined(job, excuses_of(8)), {}, {}, 0};
+        by.code = solves<plain_solve_two>(by, out) % 256;
+        made.timed.push_back(by);
+    }
+    return made;
+}
+
+/* The widened job's excuses have fewer terms. The other way round it asks more: its cells see more. */
+line excused_widen_line()
+{
+    line made = {widening_two, "form two, 64 excuses: 6 seen each to 8 seen each", {}, {}};
+    for (const widening_pair &of : widenings()) {
+        sheet narrow = joined(of.narrow, excuses_of(8)), wide = joined(of.wide, excuses_of(6));
+        sheet tables(LONGEST_ANSWER), wide_tables(LONGEST_ANSWER);
+        tables.resize(plain_solve_two(narrow.data(), narrow.size(), tables.data(), LONGEST_ANSWER) >> 40);
+        wide_tables.resize(plain_solve_two(wide.data(), wide.size(), wide_tables.data(), LONGEST_ANSWER) >> 40);
+        made.timed.push_back({narrow, wide, tables, ORMSVELG_TABLES});
+        made.tried.push_back({wide, narrow, wide_tables, ORMSVELG_ASKS_MORE});
+    }
+    return made;
 }
 
 std::vector<line> lines()
@@ -234,15 +302,22 @@ std::vector<line> lines()
     /* The sheet of the papers' job J3. */
     const sheet j3 = {2, 4, 7, 1, 0, 1, 1, 6, 0, 4, 0, 3, 4, 6, 4, 1, 2, 4,
                       6, 3, 0, 2, 5, 3, 0, 2, 7, 3, 1, 3, 5, 3, 1, 3, 7};
-    std::vector<line> made = {read_line("longest sheet, 7457 bytes", longest),
-                              read_line("ordinary sheet, 291 bytes", ordinary), read_line("J3, 35 bytes", j3),
-                              check_line()};
-    for (const family &of : families())
+    std::vector<line> made = {read_line(reading, "longest sheet, 7457 bytes", longest),
+                              read_line(reading, "ordinary sheet, 291 bytes", ordinary),
+                              read_line(reading, "J3, 35 bytes", j3), check_line()};
+    const line checked = made.back();
+    const std::vector<family> solved = families();
+    for (const family &of : solved)
         made.push_back(solve_line(of));
     made.push_back(widen_line());
     made.push_back(write_line("longest sheet, 7457 bytes", longest));
     made.push_back(write_line("ordinary sheet, 291 bytes", ordinary));
     made.push_back(write_line("J3, 35 bytes", j3));
+    made.push_back(excused_read_line(longest));
+    made.push_back(excused_check_line(checked));
+    for (int large : {2, 3})
+        made.push_back(excused_solve_line(solved[large]));
+    made.push_back(excused_widen_line());
     return made;
 }
 

@@ -1,12 +1,14 @@
 /* speed/plain.cpp: the library as a C++ programmer would write it, with nothing proved.
  * Why: make speed times the library against it, and both do the same work the same way.
  *     reader    left to right, sets as masks; the rules go to an array that is a local of each call
- *     checker   every rule at every combination: the rows it shows, the mask of true terms, each rule's mask against it
- *     solver    the faults of each combination are filled rule by rule, the rows that it shows wire by wire; then, for
- *               each row that is not settled, a breadth-first spread from its 0 claim and, where that fails, from its
- *               1 claim. Each reached claim scans all combinations and drops those that show another row; no spread
- *               stops early
- *     widener   the tables are checked, each rule is looked for among P's, each row is copied from the row it widens
+ *     checker   every rule at every combination: the rows it shows, the mask of true terms, each excuse's mask against
+ *               it and, where none holds, each rule's
+ *     solver    the faults of each combination are filled rule by rule and cleared excuse by excuse, the rows that it
+ *               shows are filled wire by wire; then, for each row that is not settled, a breadth-first spread from its
+ *               0 claim and, where that fails, from its 1 claim. Each reached claim scans all combinations and drops
+ *               those that show another row; no spread stops early
+ *     widener   the tables are checked, each rule is looked for among P's and each excuse among Q's, each row is copied
+ *               from the row it widens
  *     writer    the description is judged and its sheet measured, then each mask is written from its lowest bit up
  */
 #include "plain.h"
@@ -21,7 +23,7 @@
 
 namespace {
 
-constexpr unsigned MOST_WIRES = 12, MOST_SEEN = 8, MOST_RULES = 256;
+constexpr unsigned MOST_WIRES = 12, MOST_SEEN = 8, MOST_RULES = 256, MOST_EXCUSES = 64;
 constexpr unsigned COMBINATIONS = 4096, ROWS = 512, CLAIMS = 1024, UNSETTLED = 2;
 
 enum { ACCEPTED, ENDS, TOO_MANY, NOT_RISING, TOO_HIGH, LEFT_OVER };
@@ -103,32 +105,35 @@ inline uint64_t read_pins(reader &from, job &job)
     return ACCEPTED;
 }
 
-inline uint64_t read_rules(reader &from, job &job)
+/* Reads a count of at most `most` and then as many sets of terms, the rules or the excuses. */
+inline uint64_t read_sets(reader &from, unsigned most, unsigned terms, uint32_t *sets, unsigned &read)
 {
-    unsigned terms = 2 * job.wires + 4;
     if (from.length - from.place < 2)
         return refused_job(ENDS, from.length);
     unsigned count = from.sheet[from.place] | (unsigned)from.sheet[from.place + 1] << 8;
-    if (count > MOST_RULES)
+    if (count > most)
         return refused_job(TOO_MANY, from.place);
     from.place += 2;
-    for (unsigned rule = 0; rule < count; rule++) {
-        uint64_t outcome = read_set(from, terms, terms, job.rules[rule]);
+    for (unsigned set = 0; set < count; set++) {
+        uint64_t outcome = read_set(from, terms, terms, sets[set]);
         if (outcome != ACCEPTED)
             return outcome;
     }
-    job.rule_count = count;
+    read = count;
     return ACCEPTED;
 }
 
-inline uint64_t read_job(const uint8_t *sheet, size_t length, job &job)
+template <form of> inline uint64_t read_job(const uint8_t *sheet, size_t length, job &job)
 {
     reader from = {sheet, length, 0};
     uint64_t outcome = read_pins(from, job);
     for (int cell = 0; cell < 2 && outcome == ACCEPTED; cell++)
         outcome = read_set(from, MOST_SEEN, job.wires, job.seen[cell]);
     if (outcome == ACCEPTED)
-        outcome = read_rules(from, job);
+        outcome = read_sets(from, MOST_RULES, 2 * job.wires + 4, job.rules, job.rule_count);
+    job.excuse_count = 0;
+    if (of == form::two && outcome == ACCEPTED)
+        outcome = read_sets(from, MOST_EXCUSES, 2 * job.wires, job.excuses, job.excuse_count);
     if (outcome == ACCEPTED && from.place < length)
         outcome = refused_job(LEFT_OVER, from.place);
     return outcome;
@@ -172,6 +177,11 @@ uint32_t true_terms(unsigned wires, uint32_t combination, uint32_t a, uint32_t b
     return terms;
 }
 
+bool excused(masks excuses, uint32_t terms)
+{
+    return std::any_of(excuses.begin(), excuses.end(), [=](uint32_t excuse) { return (excuse & ~terms) == 0; });
+}
+
 bool breaks(masks rules, uint32_t terms)
 {
     return std::any_of(rules.begin(), rules.end(), [=](uint32_t rule) { return (rule & terms) == 0; });
@@ -179,11 +189,12 @@ bool breaks(masks rules, uint32_t terms)
 
 uint64_t test_tables(const job &job, bytes table_a, bytes table_b)
 {
-    masks rules(job.rules, job.rule_count);
+    masks rules(job.rules, job.rule_count), excuses(job.excuses, job.excuse_count);
     for (uint32_t combination = 0; combination < 1u << job.wires; combination++) {
         uint32_t a = table_a[row_shown(job.seen[0], combination)];
         uint32_t b = table_b[row_shown(job.seen[1], combination)];
-        if (breaks(rules, true_terms(job.wires, combination, a, b)))
+        uint32_t terms = true_terms(job.wires, combination, a, b);
+        if (!excused(excuses, terms) && breaks(rules, terms))
             return refused_answer(BREAKS_RULE, combination);
     }
     return TABLES;
@@ -246,19 +257,33 @@ uint64_t pattern_of(uint32_t fixed, uint32_t up)
     return pattern << up;
 }
 
-/* Sets the places where the rule is broken: a cube, word by word. */
-void fill_rule(unsigned wires, uint32_t rule, uint64_t *table)
+/* Changes the words of a cube: the places whose digits of `down` are 0 and of `up` are 1. */
+template <typename change> void change_cube(unsigned wires, uint32_t down, uint32_t up, uint64_t *table, change by)
 {
-    uint32_t down = arranged(wires, evens(rule)), up = arranged(wires, evens(rule >> 1)), fixed = down | up;
+    uint32_t fixed = down | up;
     if (down & up)
         return;
     uint64_t pattern = pattern_of(fixed % 64, up % 64);
     uint32_t last_word = ((1u << wires) - 1) / 16, free = last_word & ~(fixed / 64);
     for (uint32_t part = free;; part = (part - 1) & free) {
-        table[up / 64 + part] |= pattern;
+        by(table[up / 64 + part], pattern);
         if (part == 0)
             return;
     }
+}
+
+/* Sets the places where the rule is broken. */
+void fill_rule(unsigned wires, uint32_t rule, uint64_t *table)
+{
+    uint32_t down = arranged(wires, evens(rule)), up = arranged(wires, evens(rule >> 1));
+    change_cube(wires, down, up, table, [](uint64_t &word, uint64_t pattern) { word |= pattern; });
+}
+
+/* Clears the places of the combinations that the excuse excuses. */
+void clear_excuse(unsigned wires, uint32_t excuse, uint64_t *table)
+{
+    uint32_t up = arranged(wires, evens(excuse)), down = arranged(wires, evens(excuse >> 1));
+    change_cube(wires, down, up, table, [](uint64_t &word, uint64_t pattern) { word &= ~pattern; });
 }
 
 void fill_faults(const job &from, board &to)
@@ -267,6 +292,8 @@ void fill_faults(const job &from, board &to)
     memset(table, 0, (to.combinations + 15) / 16 * sizeof *table);
     for (unsigned rule = 0; rule < from.rule_count; rule++)
         fill_rule(from.wires, from.rules[rule], table);
+    for (unsigned excuse = 0; excuse < from.excuse_count; excuse++)
+        clear_excuse(from.wires, from.excuses[excuse], table);
     for (unsigned a = 0; a < to.combinations; a++)
         to.faults[a] = table[a / 16] >> a % 16 * 4 & 15;
 }
@@ -389,15 +416,22 @@ uint64_t solve(const board &on, uint8_t *answer)
 
 /* ---- the widener */
 
-/* Whether the pins are equal, each cell sees no fewer wires, and each rule of Q has all terms of some rule of P. */
+/* Whether each of the wide sets has all terms of some narrow one. */
+bool all_within(masks narrow, masks wide)
+{
+    return std::all_of(wide.begin(), wide.end(), [=](uint32_t outer) {
+        return std::any_of(narrow.begin(), narrow.end(), [=](uint32_t inner) { return (inner & ~outer) == 0; });
+    });
+}
+
+/* Whether the pins are equal, each cell sees no fewer wires, each rule of Q has all terms of some rule of P, and each
+ * excuse of P all terms of some excuse of Q. */
 bool asks_no_more(const job &p, const job &q)
 {
     if (p.wires != q.wires || memcmp(p.pins, q.pins, p.wires) || p.seen[0] & ~q.seen[0] || p.seen[1] & ~q.seen[1])
         return false;
-    masks of_p(p.rules, p.rule_count), of_q(q.rules, q.rule_count);
-    return std::all_of(of_q.begin(), of_q.end(), [=](uint32_t wide) {
-        return std::any_of(of_p.begin(), of_p.end(), [=](uint32_t rule) { return (rule & ~wide) == 0; });
-    });
+    return all_within(masks(p.rules, p.rule_count), masks(q.rules, q.rule_count)) &&
+           all_within(masks(q.excuses, q.excuse_count), masks(p.excuses, p.excuse_count));
 }
 
 /* The combination that shows a row, with every other wire at 0. */
@@ -482,32 +516,21 @@ size_t write_job(uint8_t *sheet, bytes pins, uint32_t sees_a, uint32_t sees_b, m
     return at;
 }
 
-}
+/* ---- the calls, by the form of their job sheets */
 
-uint64_t plain_read(const uint8_t *sheet, size_t sheet_len)
-{
-    job read;
-    return read_job(sheet, sheet_len, read);
-}
-
-uint64_t plain_read_job(const uint8_t *sheet, size_t sheet_len, job &read)
-{
-    return read_job(sheet, sheet_len, read);
-}
-
-uint64_t plain_check(const uint8_t *sheet, size_t sheet_len, const uint8_t *answer, size_t answer_len)
+template <form of> uint64_t check_sheet(bytes sheet, bytes answer)
 {
     job read;
     bytes tables[2];
-    uint64_t refused = read_job(sheet, sheet_len, read);
-    return refused != 0 ? refused : check(read, bytes(answer, answer_len), tables);
+    uint64_t refused = read_job<of>(sheet.data(), sheet.size(), read);
+    return refused != 0 ? refused : check(read, answer, tables);
 }
 
-uint64_t plain_solve(const uint8_t *sheet, size_t sheet_len, uint8_t *answer, size_t answer_len)
+template <form of> uint64_t solve_sheet(bytes sheet, uint8_t *answer, size_t answer_len)
 {
     job read;
     board filled;
-    uint64_t outcome = read_job(sheet, sheet_len, read);
+    uint64_t outcome = read_job<of>(sheet.data(), sheet.size(), read);
     if (outcome != 0)
         return outcome;
     if (answer_len < LONGEST_ANSWER)
@@ -521,18 +544,17 @@ uint64_t plain_solve(const uint8_t *sheet, size_t sheet_len, uint8_t *answer, si
     return solve(filled, answer);
 }
 
-uint64_t plain_widen(const uint8_t *p, size_t p_len, const uint8_t *q, size_t q_len, const uint8_t *answer,
-                     size_t answer_len, uint8_t *out, size_t out_len)
+template <form of> uint64_t widen_sheet(bytes p, bytes q, bytes answer, uint8_t *out, size_t out_len)
 {
     job narrow, wide;
     bytes tables[2];
-    uint64_t outcome = read_job(p, p_len, narrow);
+    uint64_t outcome = read_job<of>(p.data(), p.size(), narrow);
     if (outcome != 0)
         return outcome;
-    outcome = read_job(q, q_len, wide);
+    outcome = read_job<of>(q.data(), q.size(), wide);
     if (outcome != 0)
         return outcome + (2 << 8);
-    outcome = check(narrow, bytes(answer, answer_len), tables);
+    outcome = check(narrow, answer, tables);
     if (outcome != TABLES)
         return outcome;
     if (!asks_no_more(narrow, wide))
@@ -543,6 +565,57 @@ uint64_t plain_widen(const uint8_t *p, size_t p_len, const uint8_t *q, size_t q_
     for (int cell = 0; cell < 2; cell++)
         at = write_wide(out, at, tables[cell], narrow.seen[cell], wide.seen[cell]);
     return succeeded(TABLES, put_two(out, at, 0));
+}
+
+}
+
+uint64_t plain_read_job(form of, const uint8_t *sheet, size_t sheet_len, job &read)
+{
+    return of == form::one ? read_job<form::one>(sheet, sheet_len, read) : read_job<form::two>(sheet, sheet_len, read);
+}
+
+uint64_t plain_read(const uint8_t *sheet, size_t sheet_len)
+{
+    job read;
+    return read_job<form::one>(sheet, sheet_len, read);
+}
+
+uint64_t plain_read_two(const uint8_t *sheet, size_t sheet_len)
+{
+    job read;
+    return read_job<form::two>(sheet, sheet_len, read);
+}
+
+uint64_t plain_check(const uint8_t *sheet, size_t sheet_len, const uint8_t *answer, size_t answer_len)
+{
+    return check_sheet<form::one>({sheet, sheet_len}, {answer, answer_len});
+}
+
+uint64_t plain_check_two(const uint8_t *sheet, size_t sheet_len, const uint8_t *answer, size_t answer_len)
+{
+    return check_sheet<form::two>({sheet, sheet_len}, {answer, answer_len});
+}
+
+uint64_t plain_solve(const uint8_t *sheet, size_t sheet_len, uint8_t *answer, size_t answer_len)
+{
+    return solve_sheet<form::one>({sheet, sheet_len}, answer, answer_len);
+}
+
+uint64_t plain_solve_two(const uint8_t *sheet, size_t sheet_len, uint8_t *answer, size_t answer_len)
+{
+    return solve_sheet<form::two>({sheet, sheet_len}, answer, answer_len);
+}
+
+uint64_t plain_widen(const uint8_t *p, size_t p_len, const uint8_t *q, size_t q_len, const uint8_t *answer,
+                     size_t answer_len, uint8_t *out, size_t out_len)
+{
+    return widen_sheet<form::one>({p, p_len}, {q, q_len}, {answer, answer_len}, out, out_len);
+}
+
+uint64_t plain_widen_two(const uint8_t *p, size_t p_len, const uint8_t *q, size_t q_len, const uint8_t *answer,
+                         size_t answer_len, uint8_t *out, size_t out_len)
+{
+    return widen_sheet<form::two>({p, p_len}, {q, q_len}, {answer, answer_len}, out, out_len);
 }
 
 uint64_t plain_write(const uint8_t *pins, size_t pins_len, uint32_t sees_a, uint32_t sees_b, const uint32_t *rules,

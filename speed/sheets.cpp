@@ -1,4 +1,5 @@
-/* speed/sheets.cpp: makes the sheets that make speed times: jobs to read, and a job with tables that fit it.
+/* speed/sheets.cpp: makes the sheets that make speed times: jobs to read, a job with tables that fit it, and excuses to
+ * put behind a job of 12 wires.
  * The random rules come from a fixed seed, so that every run times the same sheets. It leans on nothing.
  */
 #include "sheets.h"
@@ -7,6 +8,7 @@
 #define SEEN 8
 #define ROWS 256
 #define RULES 256
+#define EXCUSES 64
 #define COMBINATIONS 4096
 #define VARIABLES (WIRES + 2)
 
@@ -132,5 +134,37 @@ size_t fitted_job(uint8_t *sheet, const uint8_t *tables)
     sheet[at++] = RULES >> 8;
     for (int rule = 0; rule < RULES; rule++)
         at = fitted_rule(sheet, at, tables);
+    return at;
+}
+
+static size_t begin_excuses(uint8_t *section)
+{
+    section[0] = EXCUSES;
+    section[1] = 0;
+    return 2;
+}
+
+size_t longest_excuses(uint8_t *section)
+{
+    size_t at = begin_excuses(section);
+    for (int excuse = 0; excuse < EXCUSES; excuse++)
+        at = rising_section(section, at, 2 * WIRES, 1);
+    return at;
+}
+
+/* Every fifth wire, around the 12, is named; which terms are negated is mixed from the excuse's number. */
+size_t mixed_excuses(uint8_t *section, unsigned terms)
+{
+    size_t at = begin_excuses(section);
+    for (unsigned excuse = 0; excuse < EXCUSES; excuse++) {
+        unsigned named = 0, negated = excuse * 0x9E3779B9u >> (32 - WIRES);
+        for (unsigned term = 0; term < terms; term++)
+            named |= 1u << (excuse + 5 * term) % WIRES;
+        section[at++] = (uint8_t)terms;
+        for (unsigned wire = 0; wire < WIRES; wire++) {
+            if (named >> wire & 1)
+                section[at++] = (uint8_t)(2 * wire + (negated >> wire & 1));
+        }
+    }
     return at;
 }

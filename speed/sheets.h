@@ -16,4 +16,11 @@ size_t ordinary_job(uint8_t *sheet);
 size_t largest_tables(uint8_t *sheet);
 size_t fitted_job(uint8_t *sheet, const uint8_t *tables);
 
+/* The longest section of excuses, 64 of 24 terms: behind the longest job it makes the longest sheet of form two. */
+#define LONGEST_EXCUSES 1602
+size_t longest_excuses(uint8_t *section);
+
+/* 64 excuses of so many terms each, at most 12, of different wires. Those of more terms contain those of fewer. */
+size_t mixed_excuses(uint8_t *section, unsigned terms);
+
 #endif

@@ -11,10 +11,10 @@
 
 typedef uint64_t solver(const uint8_t *job, size_t job_len, uint8_t *answer, size_t answer_len);
 
-/* The library's algorithm, the same work the same way. */
-solver plain_solve;
+/* The library's algorithm, the same work the same way; for form one, and for form two. */
+solver plain_solve, plain_solve_two;
 
-/* The fastest way known to the same outcome. */
+/* The fastest way known to the same outcome, for form one. */
 solver best_solve;
 
 enum { NO_ROOM = 6, TABLES = 20, WALK = 21, LONGEST_ANSWER = 8190 };
