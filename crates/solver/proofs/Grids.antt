@@ -18,7 +18,7 @@ use Rattle.answer.specs.Written.{two, tablesSheet, walkSheet, IsPair}
 use Rattle.answer.proofs.Sheets.{walk-length as walk-sheet-length}
 use Rattle.board.specs.Tables.{First}
 use Rattle.grid.specs.Grid.{Grid, Sound, gridBoard}
-use Rattle.solver.specs.Settle.{WalkWritten, Searches}
+use Rattle.search.specs.Settle.{WalkWritten, Searches}
 use Rattle.solver.specs.Solved.{Wrote, SolvedOn, tables, walk}
 
 module _ {g : Grid} (ok : Sound g) where

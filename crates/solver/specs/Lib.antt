@@ -1,3 +1,1 @@
-pub mod Merge
-pub mod Settle
 pub mod Solved

@@ -1,10 +1,10 @@
--- `solver::settle` meets its contract: the laws of `Turns`, with the row's 0 claim and then with its 1 claim.
+-- `search::settle` meets its contract: the laws of `Turns`, with the row's 0 claim and then with its 1 claim.
 -- Assumes nothing.
 use native.Mathlib.Omega.{arith}
-use Rattle.solver.proofs.Turns.{row-settled, first-asks, first-settles, second-asks, second-settles}
+use Rattle.search.proofs.Turns.{row-settled, first-asks, first-settles, second-asks, second-settles}
 use borrow.Author.Needs.{needs}
-use Rattle.solver.proofs.settle.Statement.{statement}
-use Rattle.solver.proofs.settle.Tie as tie
+use Rattle.search.proofs.settle.Statement.{statement}
+use Rattle.search.proofs.settle.Tie as tie
 
 -- from the test of the row back to the start
 abbrev start : tie.Else1 → tie.Start

@@ -1,4 +1,4 @@
--- What the solver's functions ask and leave, row by row. The state S has a 0, a 1 or a 2 for each row, where 2 says that the row is not settled yet; W is
+-- What the functions of the search ask and leave, row by row. The state S has a 0, a 1 or a 2 for each row, where 2 says that the row is not settled yet; W is
 -- scratch for the bytes of a walk.
 --     Trying                   row r is next and is tried with bit v
 --     Attempts, Attempted      one spread from claim c of the next row: it settles rows, or half of a walk is written

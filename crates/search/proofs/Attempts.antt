@@ -20,10 +20,10 @@ use Rattle.spread.specs.Reach.{Store, mark, marked, Starts, Spread}
 use Rattle.spread.specs.Walk.{Backs, Written, HalfWalk}
 use Rattle.spread.proofs.Sizes.{shows}
 use Rattle.spread.proofs.Meaning.{spread-is, unmarked-good, mark-one, half-backs, half-walk}
-use Rattle.solver.specs.Merge.{MergedBy}
-use Rattle.solver.specs.Settle.{Attempts, Attempted}
-use Rattle.solver.proofs.Merging.{merged}
-use Rattle.solver.proofs.Fours.{fours-length}
+use Rattle.search.specs.Merge.{MergedBy}
+use Rattle.search.specs.Settle.{Attempts, Attempted}
+use Rattle.search.proofs.Merging.{merged}
+use Rattle.search.proofs.Fours.{fours-length}
 
 module _ {g : Grid} {s : Store} {c at : ℕ} {S W : List ℕ} (a : Attempts g s c S W at) where
   inside : c < claims g

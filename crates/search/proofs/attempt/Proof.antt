@@ -1,9 +1,9 @@
--- `solver::attempt` meets its contract: the laws of `Attempts`, at the spread's store and the opposite of the start.
+-- `search::attempt` meets its contract: the laws of `Attempts`, at the spread's store and the opposite of the start.
 -- Assumes nothing.
-use Rattle.solver.proofs.Attempts.{attempt-starts, merge-room, attempt-good, attempt-backs, attempt-fails}
+use Rattle.search.proofs.Attempts.{attempt-starts, merge-room, attempt-good, attempt-backs, attempt-fails}
 use borrow.Author.Needs.{needs}
-use Rattle.solver.proofs.attempt.Statement.{statement}
-use Rattle.solver.proofs.attempt.Tie as tie
+use Rattle.search.proofs.attempt.Statement.{statement}
+use Rattle.search.proofs.attempt.Tie as tie
 
 -- from the test of the opposite's mark back to the start, to the spread, and to the call of `opposite`
 abbrev start : tie.After-slice-known11 → tie.Start

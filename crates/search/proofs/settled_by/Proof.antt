@@ -1,9 +1,9 @@
--- `solver::settled_by` meets its contract: by cases on the two tests, whose outcomes `omega` finds in `c`.
+-- `search::settled_by` meets its contract: by cases on the two tests, whose outcomes `omega` finds in `c`.
 -- Assumes nothing.
 use native.Mathlib.Omega.{arith}
-use Rattle.solver.proofs.Merging.{picks-0, picks-1, picks-old}
-use Rattle.solver.proofs.settled_by.Statement.{statement}
-use Rattle.solver.proofs.settled_by.Tie as tie
+use Rattle.search.proofs.Merging.{picks-0, picks-1, picks-old}
+use Rattle.search.proofs.settled_by.Statement.{statement}
+use Rattle.search.proofs.settled_by.Tie as tie
 
 returns : tie.Need-returns
 returns c = let a = c .before .args in picks-0 (a .zero) (a .one) (a .old) (omega arith)

@@ -28,8 +28,8 @@ use Rattle.theory.proofs.Reach.{reach-cast}
 use Rattle.grid.specs.Grid.{Grid, gridBoard}
 use Rattle.spread.specs.Reach.{Store, Room, Same}
 use Rattle.spread.proofs.Sizes.{shows}
-use Rattle.solver.specs.Settle.{Trying, Attempts, Attempted, Settles, WalkWritten, Settled, Searches, Searched}
-use Rattle.solver.proofs.Halves.{half-reaches, halves-written}
+use Rattle.search.specs.Settle.{Trying, Attempts, Attempted, Settles, WalkWritten, Settled, Searches, Searched}
+use Rattle.search.proofs.Halves.{half-reaches, halves-written}
 
 -- the claims of row r, as they are counted
 row-zero : (r : ℕ) → row (2 * r) ≡ r

@@ -1,14 +1,14 @@
--- `solver::search` meets its contract. The invariant is `Searching`: all rows below `row` are settled. The measure is what is left of the rows.
+-- `search::search` meets its contract. The invariant is `Searching`: all rows below `row` are settled. The measure is what is left of the rows.
 -- Assumes nothing.
 use mathlib.Core.Path.{sym, _∙_}
 use Prim.Native.Nat.{_-_}
 use native.Mathlib.Omega.{arith}
 use Rattle.grid.specs.Grid.{grid}
 use Rattle.spread.specs.Reach.{store}
-use Rattle.solver.proofs.Turns.{Searching, search-starts, search-asks, search-turns, search-fails, search-ends}
+use Rattle.search.proofs.Turns.{Searching, search-starts, search-asks, search-turns, search-fails, search-ends}
 use borrow.Author.Needs.{needs}
-use Rattle.solver.proofs.search.Statement.{statement}
-use Rattle.solver.proofs.search.Tie as tie
+use Rattle.search.proofs.search.Statement.{statement}
+use Rattle.search.proofs.search.Tie as tie
 
 abbrev Inv-loop : tie.InvT-loop
 Inv-loop shape row-a row-b faults state₀ walk₀ reached₀ queue₀ from₀ by₀ rows row₀ state walk reached queue from by row =

@@ -19,8 +19,8 @@ use Rattle.board.specs.Walk.{Stands, Reaches}
 use Rattle.theory.proofs.Reach.{closed-walk}
 use Rattle.grid.specs.Grid.{Grid, claims, Sound, gridBoard}
 use Rattle.spread.specs.Walk.{HalfWalk}
-use Rattle.solver.specs.Settle.{Half, WalkWritten}
-use Rattle.solver.proofs.Fours.{fours-length, fours-append}
+use Rattle.search.specs.Settle.{Half, WalkWritten}
+use Rattle.search.proofs.Fours.{fours-length, fours-append}
 
 -- what holds of the entries of each of two lists
 all-append :

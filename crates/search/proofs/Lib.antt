@@ -1,0 +1,5 @@
+pub mod Merging
+pub mod Fours
+pub mod Attempts
+pub mod Halves
+pub mod Turns
