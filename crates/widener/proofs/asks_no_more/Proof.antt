@@ -103,7 +103,11 @@ cast-all-within-2 : tie.Need-cast-all-within-2
 cast-all-within-2 c = search needs
 
 all-within-requires-2 : tie.Need-all-within-requires-2
-all-within-requires-2 c κs = let start = c .before .before .before .before .before .before .before .before .before .before .before .before .before .before .before .before .before .before .before .before .before .before .pre in (excuses-in _ _ (start .1 .1), excuses-in _ _ (start .0 .1))
+all-within-requires-2 c κs =
+    let start = c .before .before .before .before .before .before .before .before .before .before .before .before .before .before .before .before .before .before .before .before .before .before .pre in
+    let p = excuses-in _ _ (start .0 .1) in
+    let q = excuses-in _ _ (start .1 .1) in
+    (omega (arith, p, q), omega (arith, p, q))
 
 returns-6 : tie.Need-returns-6
 returns-6 c =
