@@ -146,8 +146,9 @@ fn beyond_all_lengths(form: Form, random: &mut Random) -> Vec<Case> {
     };
     let decide = form.longest() + 1;
     let most = if random.once_in(8) { LONGEST_SLICE } else { decide + 500 };
+    // Damage may have left bytes over, more than this length has.
     let length = random.within(decide + 1, most);
-    let more = random.bytes(length - bytes.len());
+    let more = random.bytes(length.saturating_sub(bytes.len()));
     bytes.extend(more);
     let deciding = bytes[..decide].to_vec();
     let outcome = read_outcome(form, &bytes);

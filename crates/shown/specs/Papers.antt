@@ -1,7 +1,8 @@
 -- The sheets that document 01 marks with P ("Sheets on both sides of the line"), and what it says of each; and the board with two speed wires of document
 -- 02's request 2, without its excuse and with it.
 --     J1 to J7, J6′, equal      job sheets, byte by byte
---     speed, speed-two, speed-excused      the board with two speed wires, in form one, and in form two without and with its excuse
+--     speed, speed-two, speed-excused, speed-free      the board with two speed wires, in form one, and in form two without an excuse, with its own and with
+--     the empty one
 --     by        a walk's entry: claim, combination
 --     papers    the list
 -- Assumes nothing: these are definitions.
