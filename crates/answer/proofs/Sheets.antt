@@ -12,13 +12,13 @@ use Prim.Native.Nat.{ℕ, zero, suc, _+_, _*_, _/_, _%_, _≤_, _<_}
 use native.Mathlib.Nat.{add-zero, not-suc-le-zero}
 use native.Mathlib.Numerals.{add-one}
 use native.Mathlib.Omega.{arith}
-use borrow.Author.Tests.{lt-ltb, le-ltb, le-leb, eq-eqb, ne-eqb}
+use borrow.Author.Tests.{lt-ltb, le-leb, eq-eqb, ne-eqb}
 use lib.Dec.{leb, eqb}
 use lib.ListN.{length, getD, drop, length-append, List·getD-append, drop-of-length-le}
 use lib.Seq.{drop-cons, getD-append-add, getD-append-seam}
 use Rattle.steps.specs.Step.{got, next}
 use Rattle.steps.specs.Bytes.{word, end}
-use Rattle.steps.proofs.Near.{byte-there}
+use Rattle.steps.proofs.Near.{byte-there, end-read}
 use Rattle.answer.specs.Answer.{Entry, tables, walk, answered}
 use Rattle.answer.specs.AnswerSheet.{walkLimit, permitted, exactly, kindCount, walkCount, isBit, bit, bits, isBelow, below, entry, entries, tablesRest, walkRest, answer, readAnswer}
 use Rattle.answer.specs.Written.{two, table, four, fours, tablesSheet, walkSheet, Bytes, IsPair, IsWalk, entryAt}
@@ -115,10 +115,6 @@ entries-read claims combinations s at (e ∷ es) m l all =
     let b = below-read combinations s (at + 2) (e .by) (at + 4) (all .combination 0 (omega arith)) (entries-by claims combinations s at n e es m l all) in
     let rest = entries-read claims combinations s (at + 4) es m l (entries-rest claims combinations s at n e es m l all) in
     rw (a, b, rest)
-
-pub end-read : (s : List ℕ) (at : ℕ) → length s ≡ at → end s at ≡ got 0 at
-unfolding end
-end-read s at e = rw (le-ltb at (length s) (omega arith))
 
 -- ---- sections that stand in a sheet are read
 

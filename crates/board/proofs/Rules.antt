@@ -7,7 +7,7 @@
 --     excusedb-iff    a combination is excused by a list
 --     faultb-iff      some rule is broken where it counts
 --     front-faultb    the same of a list that has the rules and then the excuses at its front
---     slice-from      the slice of a list from a place on
+--     behind, behind-is, excuses-there      the slice of the masks behind the rules, where the excuses stand
 --     excused-more    if each excuse of a list contains all terms of some excuse of another, what the one excuses so does the other
 --     holds-by        a rule holds exactly where it meets the set of the true terms
 --     excused-by      a combination is excused exactly where that set contains an excuse
@@ -31,7 +31,8 @@ use Rattle.wires.specs.Terms.{value, IsTrue, Holds, Breaks, Fault, Truths, Meet
 use Rattle.wires.proofs.Digits.{low-digit}
 use Rattle.wires.proofs.Terms.{holds}
 use Rattle.wires.proofs.Sets.{or-cases, or-left, or-right, same-test, from-here, none-left, some-to, some-from, excuse-within}
-use Rattle.board.specs.JobBoard.{trueb, anyBelow, holdsb, breaksb, excusesb, excusedb, faultb}
+use Rattle.sheet.specs.declared.JobHead.{JobHead}
+use Rattle.board.specs.JobBoard.{trueb, anyBelow, holdsb, breaksb, excusesb, excusedb, faultb, Sized}
 use Rattle.board.proofs.Tests.{and-both, all-below}
 
 -- ---- some number below k passes
@@ -181,9 +182,15 @@ front-faultb n masks count k a x y long =
       λ f. test .1 (rules .1 (f .0), λ h. f .1 (excuses .0 h)),
     )
 
--- what `&s[at..]` is
-pub slice-from : (s : List ℕ) (at : ℕ) → take (length s - at) (drop at s) ≡ drop at s
-slice-from s at = take-all (length s - at) (drop at s) (omega (arith, length-drop at s))
+-- the excuses stand behind the rules: what the slice of the masks from that place on is
+abbrev pub behind : JobHead → List ℕ → List ℕ
+behind h masks = take (length masks - h .rules) (drop (h .rules) masks)
+
+pub behind-is : (h : JobHead) (masks : List ℕ) → behind h masks ≡ drop (h .rules) masks
+behind-is h masks = take-all (length masks - h .rules) (drop (h .rules) masks) (omega (arith, length-drop (h .rules) masks))
+
+pub excuses-there : (h : JobHead) (masks : List ℕ) → Sized h masks → h .excuses ≤ length (behind h masks)
+excuses-there h masks z = rw (behind-is h masks) (omega (arith, z .count, length-drop (h .rules) masks))
 
 -- ---- rules one by one, each held against the set of the true terms
 

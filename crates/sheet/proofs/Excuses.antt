@@ -13,7 +13,6 @@ use lib.Seq.{sets}
 use Rattle.steps.specs.declared.Refusal.{Refusal}
 use Rattle.steps.specs.declared.Read.{Read}
 use Rattle.steps.specs.declared.Read.the-variants.{Got, Refused}
-use Rattle.steps.specs.Step.{got, refused}
 use Rattle.steps.specs.Bytes.{wordCount}
 use Rattle.steps.specs.Found.{asRead}
 use Rattle.steps.proofs.Entries.{next-inv}

@@ -47,7 +47,7 @@ near-rules (suc n) terms at =
     (λ s r m h.
     near-then (n * (1 + terms)) 0 m (λ s. rules n terms s m) (λ rs q s. got (r ∷ rs) q) (near-rules n terms m) (λ s rs q g. near-give q (r ∷ rs))))
 
-abbrev jobOf : Head → (rs es : List ℕ) → Job
+abbrev pub jobOf : Head → (rs es : List ℕ) → Job
 jobOf h rs es = record { pins = h .pins; seesA = h .seesA; seesB = h .seesB; rules = rs; excuses = es }
 
 -- ---- the whole sheet

@@ -7,6 +7,7 @@ pub mod Excuses
 pub mod Ones
 pub mod Length
 pub mod Longest
+pub mod Forms
 pub mod Walks
 pub mod Readers
 pub mod Counts

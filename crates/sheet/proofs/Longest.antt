@@ -3,13 +3,14 @@
 --     longestSheet       the sheet
 --     longest-length     its length
 --     longest-accepted   it is accepted
+--     low-count          a count of excuses is read where it stands
 -- Assumes nothing.
 use mathlib.Core.Path.{_≡_, refl, sym, ap, ap₂, _∙_}
 use mathlib.Core.List.{List, [], _∷_, _++_, append-nil, append-assoc}
 use Prim.Native.Nat.{ℕ, zero, suc, _+_, _*_, _≤_, _<_}
 use native.Mathlib.Nat.{add-zero, not-suc-le-zero}
 use native.Mathlib.Omega.{arith}
-use borrow.Author.Tests.{lt-ltb, le-ltb, le-leb}
+use borrow.Author.Tests.{lt-ltb, le-leb}
 use lib.ListN.{length, getD, length-append, List·getD-append}
 use lib.Seq.{getD-append-add}
 use Rattle.steps.specs.Step.{Step, got, next}
@@ -18,7 +19,7 @@ use Rattle.sheet.specs.declared.Form.the-variants.{One, Two}
 use Rattle.sheet.specs.Job.{Job, Head, accepted}
 use Rattle.steps.specs.Bytes.{byte, word, within, count, wordCount, rising, entry, entries, end}
 use Rattle.sheet.specs.JobSheet.{maskOf, mask, countedMask, rules, excuses, head, job, readJob, excuseLimit, longest}
-use Rattle.steps.proofs.Near.{Alike, byte-there}
+use Rattle.steps.proofs.Near.{Alike, byte-there, end-read}
 use Rattle.sheet.proofs.Length.{near-head}
 
 -- the numbers from i on, n of them
@@ -150,20 +151,17 @@ front-is : head front 0 ≡ got front-head 33
 unfolding front-head front full upFrom byte word within count wordCount rising entry entries maskOf mask countedMask head
 front-is = refl
 
-at-end : (s : List ℕ) → end s (length s) ≡ got 0 (length s)
-unfolding end
-at-end s = rw (le-ltb (length s) (length s) (omega arith))
-
--- two bytes that stand after p
-words : (p t : List ℕ) → wordCount excuseLimit (p ++ (64 ∷ 0 ∷ t)) (length p) ≡ got 64 (length p + 2)
+-- a count of excuses that stands after p
+pub low-count : (k : ℕ) → k ≤ excuseLimit → (p t : List ℕ) → wordCount excuseLimit (p ++ (k ∷ 0 ∷ t)) (length p) ≡ got k (length p + 2)
 unfolding wordCount word within
-words p t =
-    let s : List ℕ = p ++ (64 ∷ 0 ∷ t) in
-    let long : length s ≡ length p + suc (suc (length t)) = length-append p (64 ∷ 0 ∷ t) in
-    let low : getD s (length p) 0 ≡ 64 = ap (λ (k : ℕ). getD s k 0) (sym (add-zero (length p))) ∙ getD-append-add p (64 ∷ 0 ∷ t) 0 0 in
-    let high : getD s (length p + 1) 0 ≡ 0 = getD-append-add p (64 ∷ 0 ∷ t) 1 0 in
+low-count k l p t =
+    let s : List ℕ = p ++ (k ∷ 0 ∷ t) in
+    let long : length s ≡ length p + suc (suc (length t)) = length-append p (k ∷ 0 ∷ t) in
+    let low : getD s (length p) 0 ≡ k = ap (λ (i : ℕ). getD s i 0) (sym (add-zero (length p))) ∙ getD-append-add p (k ∷ 0 ∷ t) 0 0 in
+    let high : getD s (length p + 1) 0 ≡ 0 = getD-append-add p (k ∷ 0 ∷ t) 1 0 in
+    let same : k + 256 * 0 ≡ k = omega arith in
     let place : length p + 1 + 1 ≡ length p + 2 = omega arith in
-    rw (byte-there s (length p) (omega arith), byte-there s (length p + 1) (omega arith), low, high) (ap (got 64) place)
+    rw (byte-there s (length p) (omega arith), byte-there s (length p + 1) (omega arith), low, high, same, le-leb k excuseLimit l) (ap (got k) place)
 
 -- the excuses stand after the rules, and the sheet ends with them
 excuses-full : (f : Form) (p : List ℕ) → (es : List ℕ) × (excuses f 12 (p ++ fifth f) (length p) ≡ got es (length (p ++ fifth f)))
@@ -175,7 +173,7 @@ excuses-full Two p =
     let whole : q ++ (times 64 (full 24) ++ []) ≡ p ++ (64 ∷ 0 ∷ times 64 (full 24)) = ap (λ (l : List ℕ). q ++ l) (append-nil (times 64 (full 24))) ∙ append-assoc p (64 ∷ 0 ∷ []) (times 64 (full 24)) in
     let end : length (q ++ times 64 (full 24)) ≡ length (p ++ (64 ∷ 0 ∷ times 64 (full 24))) = ap length (append-assoc p (64 ∷ 0 ∷ []) (times 64 (full 24))) in
     let place : length q ≡ length p + 2 = length-append p (64 ∷ 0 ∷ []) in
-    (r .0, rw (words p (times 64 (full 24))) (ap₂ (λ (s : List ℕ) (at : ℕ). rules 64 24 s at) (sym whole) (sym place) ∙ r .1 ∙ ap (got (r .0)) end))
+    (r .0, rw (low-count 64 (omega arith) p (times 64 (full 24))) (ap₂ (λ (s : List ℕ) (at : ℕ). rules 64 24 s at) (sym whole) (sym place) ∙ r .1 ∙ ap (got (r .0)) end))
 
 pub longest-accepted : (f : Form) → (j : Job) × (readJob f (longestSheet f) ≡ accepted j)
 unfolding readJob job longestSheet front-head front full upFrom
@@ -186,4 +184,4 @@ longest-accepted f =
     let es : excuses f 12 (longestSheet f) (length (front ++ times 256 (full 28))) ≡ got (x .0) (length (longestSheet f)) =
     ap (λ (s : List ℕ). excuses f 12 s (length (front ++ times 256 (full 28)))) (sym whole) ∙ x .1 ∙ ap (λ (s : List ℕ). got (x .0) (length s)) whole in
     let top : head (longestSheet f) 0 ≡ got front-head 33 = near-head .alike 33 (longestSheet f) front (front-alike f) (omega arith) ∙ front-is in
-    (record { pins = upFrom 12 0; seesA = 255; seesB = 255; rules = r .0; excuses = x .0 }, rw (top, r .1, es, at-end (longestSheet f)))
+    (record { pins = upFrom 12 0; seesA = 255; seesB = 255; rules = r .0; excuses = x .0 }, rw (top, r .1, es, end-read (longestSheet f) (length (longestSheet f)) refl))

@@ -46,7 +46,7 @@ pub read-so : map (readJob One) sheets ≡ verdicts
 unfolding j1 j2 j3 j4 sheets verdicts byte word within count wordCount rising entry entries maskOf mask countedMask rules excuses end head job readJob
 read-so = refl
 
--- two speed wires, which are never both high: three rules
+-- two speed wires, which are never both high: A sees the first and must be 1 where it is, B the second likewise, and A and B are never both 1
 unfoldable pub speed : List ℕ
 speed = 2 ∷ 2 ∷ 3 ∷ 1 ∷ 0 ∷ 1 ∷ 1 ∷ 3 ∷ 0 ∷ 2 ∷ 1 ∷ 4 ∷ 2 ∷ 3 ∷ 6 ∷ 2 ∷ 5 ∷ 7 ∷ []
 

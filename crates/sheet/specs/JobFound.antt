@@ -10,7 +10,7 @@ use Rattle.sheet.specs.declared.JobRead.the-variants as jobRead
 use Rattle.steps.specs.Step.{Step, got, refused, Reading, _>>=_, give}
 use Rattle.sheet.specs.Job.{Job, Head, Verdict, accepted, rejected}
 use Rattle.steps.specs.Bytes.{entries, wordCount}
-use Rattle.sheet.specs.JobSheet.{countedMask, rules, excuses, head, termsOf, wireTermsOf, pinLimit, excuseLimit}
+use Rattle.sheet.specs.JobSheet.{countedMask, rules, head, termsOf, wireTermsOf, pinLimit, excuseLimit}
 
 -- n pins, of which nothing is kept
 unfoldable pub pinsPass : (n : ℕ) → Reading ℕ

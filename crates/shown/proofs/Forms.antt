@@ -15,7 +15,7 @@ use Rattle.sheet.specs.JobSheet.{readJob}
 use Rattle.board.specs.Check.{afterJob, checkOutcome}
 use Rattle.solver.specs.Solved.{Solved}
 use Rattle.solver.proofs.Demand.{SameEnding, same-ending, same-job}
-use Rattle.writer.proofs.Forms.{form-two}
+use Rattle.sheet.proofs.Forms.{form-two}
 
 module _ (s : List ℕ) (j : Job) (ok : readJob One s ≡ accepted j) where
   -- the sheet in form two

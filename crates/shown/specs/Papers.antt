@@ -1,8 +1,7 @@
 -- The sheets that document 01 marks with P ("Sheets on both sides of the line"), and what it says of each; and the board with two speed wires of document
 -- 02's request 2, without its excuse and with it.
 --     J1 to J7, J6′, equal      job sheets, byte by byte
---     speed, speed-two, speed-excused, speed-free      the board with two speed wires, in form one, and in form two without an excuse, with its own and with
---     the empty one
+--     speed-two, speed-excused, speed-free      the board with two speed wires, in form two without an excuse, with its own and with the empty one
 --     by        a walk's entry: claim, combination
 --     papers    the list
 -- Assumes nothing: these are definitions.
@@ -10,6 +9,7 @@ use mathlib.Core.List.{List, [], _∷_, _++_}
 use Prim.Native.Nat.{ℕ}
 use Rattle.steps.specs.Outcome.{success, refusal}
 use Rattle.sheet.specs.declared.Form.the-variants.{One, Two}
+use Rattle.sheet.specs.Examples.{speed}
 use Rattle.answer.specs.Answer.{Entry}
 use Rattle.answer.specs.Written.{tablesSheet, walkSheet}
 use Rattle.shown.specs.Cases.{Case, solves, walks, stands, judges, widens}
@@ -61,14 +61,11 @@ equal =
     ∷ 4 ∷ 1 ∷ 3 ∷ 5 ∷ 6
     ∷ []
 
--- two speed wires: A sees the first and must be 1 where it is, B the second likewise, and A and B are never both 1
-abbrev pub speed : List ℕ
-speed = 2 ∷ 2 ∷ 3 ∷ 1 ∷ 0 ∷ 1 ∷ 1 ∷ 3 ∷ 0 ∷ 2 ∷ 1 ∷ 4 ∷ 2 ∷ 3 ∷ 6 ∷ 2 ∷ 5 ∷ 7 ∷ []
-
+-- the board with two speed wires, in form two without an excuse
 abbrev pub speed-two : List ℕ
 speed-two = speed ++ (0 ∷ 0 ∷ [])
 
--- the wires are never both 1
+-- with the excuse of both wires at 1
 abbrev pub speed-excused : List ℕ
 speed-excused = speed ++ (1 ∷ 0 ∷ 2 ∷ 0 ∷ 2 ∷ [])
 

@@ -6,14 +6,13 @@
 --     sound, board-solved              filled arrays are a sound grid, and its board is solved as that of the job
 -- Assumes nothing.
 use mathlib.Core.Path.{_≡_, refl, sym, subst, _∙_}
-use mathlib.Core.Bool.{Bool, true, false}
 use mathlib.Core.List.{List, _++_}
-use Prim.Native.Nat.{ℕ, _+_, _*_, _-_, _%_, _^_, _<_, _≤_}
+use Prim.Native.Nat.{ℕ, _+_, _*_, _%_, _^_, _<_, _≤_}
 use native.Mathlib.Omega.{arith}
 use borrow.Author.Tests.{eqb-true, eq-eqb}
 use lib.Count.{ones}
 use lib.Dec.{eqb}
-use lib.ListN.{length, getD, take, drop, length-drop}
+use lib.ListN.{length, getD, take, drop}
 use lib.Pow.{pow-mono}
 use lib.Seq.{getD-drop}
 use Rattle.steps.specs.declared.Outcome.{Outcome}
@@ -27,7 +26,7 @@ use Rattle.board.specs.Board.{Board, Shows, rows}
 use Rattle.board.specs.JobBoard.{headBoard, Sized}
 use Rattle.board.proofs.Accepting.{Taken}
 use Rattle.board.proofs.Checked.{shows}
-use Rattle.board.proofs.Rules.{front-faultb, slice-from}
+use Rattle.board.proofs.Rules.{front-faultb, behind, behind-is, excuses-there}
 use Rattle.theory.specs.Same.{Same}
 use Rattle.theory.proofs.Same.{same-sym, same-shows, stands-same, first-same}
 use Rattle.faults.specs.Table.{Faults, Struck, Strikes, bit as digit}
@@ -79,11 +78,11 @@ module _ {h : JobHead} {masks : List ℕ} (z : Sized h masks) where
   abbrev shape : (ra rb : ℕ) → Shape
   shape ra rb = record { wires = h .wires; «sees_a» = h .«sees_a»; «sees_b» = h .«sees_b»; «rows_a» = ra; «rows_b» = rb; combinations = combinations }
 
-  pub strikes : (s : List ℕ) → length s ≡ 1024 → Strikes (h .wires) (take (length masks - h .rules) (drop (h .rules) masks)) (h .excuses) s
-  strikes s l = rw (slice-from masks (h .rules)) record {
+  pub strikes : (s : List ℕ) → length s ≡ 1024 → Strikes (h .wires) (behind h masks) (h .excuses) s
+  strikes s l = record {
     wires = omega (arith, z .wires);
-    there = omega (arith, z .count, length-drop (h .rules) masks);
-    small = λ i m. rw (getD-drop (h .rules) masks i 0) (z .excuses i m);
+    there = excuses-there h masks z;
+    small = λ i m. rw (behind-is h masks, getD-drop (h .rules) masks i 0) (z .excuses i m);
     size = l;
   }
 
@@ -91,7 +90,7 @@ module _ {h : JobHead} {masks : List ℕ} (z : Sized h masks) where
   -- and to B are xs and ys
   module _ (blank : List ℕ) (room : length blank ≡ 4096) (ra rb : ℕ) (all table fs xs ys : List ℕ)
       (is-ra : ra ≡ 2 ^ ones (h .«sees_a»)) (is-rb : rb ≡ 2 ^ ones (h .«sees_b»))
-      (told : Faults (h .wires) masks (h .rules) all) (struck : Struck (h .wires) (take (length masks - h .rules) (drop (h .rules) masks)) (h .excuses) all table) (unpacked : Faulted combinations table blank fs) (rows-a : Rows (h .wires) (h .«sees_a») blank xs)
+      (told : Faults (h .wires) masks (h .rules) all) (struck : Struck (h .wires) (behind h masks) (h .excuses) all table) (unpacked : Faulted combinations table blank fs) (rows-a : Rows (h .wires) (h .«sees_a») blank xs)
       (rows-b : Rows (h .wires) (h .«sees_b») blank ys) where
     pub sound : Sound (grid (shape ra rb) xs ys fs)
     sound = record {
@@ -118,7 +117,7 @@ module _ {h : JobHead} {masks : List ℕ} (z : Sized h masks) where
         let digits : bit (getD fs a 0) (2 * x + y) ≡ digit table a x y = unpacked .bits a x y (rw are l) lx ly in
         let at : Setting (h .wires) a x y = record { wires = omega (arith, z .wires); below = l; cell-a = lx; cell-b = ly } in
         let tells = told .tells a x y at in
-        let left = rw (slice-from masks (h .rules)) at (struck .tells a x y at) in
+        let left = rw (behind-is h masks) at (struck .tells a x y at) in
         let test = front-faultb (h .wires) masks (h .rules) (h .excuses) a x y (z .count) in
         same-test _ _ (λ e. let t = test .0 e in eq-eqb _ 1 (digits ∙ left .1 (tells .1 (t .0), t .1)))
         (λ e. let t = left .0 (sym digits ∙ eqb-true _ 1 e) in test .1 (tells .0 (t .0), t .1))

@@ -22,7 +22,7 @@ use steps::succeeded;
 use wires::row_count;
 ghost use mathlib.Core.Path.{_≡_};
 ghost use mathlib.Core.List.{_++_};
-ghost use Prim.Native.Nat.{_+_, _*_, _/_, _≤_};
+ghost use Prim.Native.Nat.{_+_, _/_, _≤_};
 ghost use lib.ListN.{length, take, drop};
 ghost use Rattle.answer.specs.AnswerSheet.{longest};
 ghost use Rattle.answer.specs.Written.{two, tablesSheet};

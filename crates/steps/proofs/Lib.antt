@@ -1,4 +1,5 @@
 pub mod Steps
 pub mod Entries
 pub mod Near
+pub mod Goes
 pub mod Runs

@@ -3,13 +3,14 @@
 --     Near           a step at a place looks at no more than the next d bytes
 --     near-then      two steps one after the other
 --     near-byte, near-word, near-count, near-word-count, near-entry, near-entries, near-end      each step
+--     end-there, end-read     where the end is found
 -- Assumes nothing.
 use mathlib.Core.Path.{_≡_, refl, sym, ap, _∙_}
 use mathlib.Core.Bool.{Bool, true, false}
 use mathlib.Core.List.{List, [], _∷_}
 use Prim.Native.Nat.{ℕ, zero, suc, _+_, _*_, _≤_, _<_}
 use native.Mathlib.Omega.{arith}
-use borrow.Author.Tests.{lt-ltb, ltb-false}
+use borrow.Author.Tests.{lt-ltb, le-ltb, ltb-false}
 use lib.Dec.{ltb, leb}
 use lib.ListN.{length, getD, take}
 use lib.Seq.{getD-take, length-take-le}
@@ -207,6 +208,10 @@ end-there s at v n h = go (ltb at (length s)) refl h
     go : (b : Bool) → ltb at (length s) ≡ b → pick {X = Step ℕ} b (refused (LeftOver at)) (got 0 at) ≡ got v n → length s ≤ at
     go true p h = absurd (apart v n (LeftOver at) (sym h))
     go false p h = ltb-false at (length s) p
+
+pub end-read : (s : List ℕ) (at : ℕ) → length s ≡ at → end s at ≡ got 0 at
+unfolding end
+end-read s at e = rw (le-ltb at (length s) (omega arith))
 
 -- a sheet and its first k bytes
 pub cut-alike : (k : ℕ) (s : List ℕ) → k ≤ length s → Alike k s (take k s)

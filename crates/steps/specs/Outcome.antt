@@ -8,7 +8,7 @@ use Rattle.steps.specs.declared.Refusal.the-variants.{Ends, TooMany, Not
 use Rattle.steps.specs.declared.Outcome.{Outcome}
 
 -- 1: job ends where a byte is called for. 2: count above its limit. 3: entry not above the one before.
--- 4: wire position not below n, or term not below 2n+4. 5: bytes left over in a job.
+-- 4: wire position not below n, or term not below 2n+4, in an excuse 2n. 5: bytes left over in a job.
 abbrev pub codeOf : Refusal → ℕ
 codeOf (Ends place) = 1
 codeOf (TooMany place) = 2

@@ -1,5 +1,5 @@
 -- Two jobs that were taken from their sheets: whether Q asks no more than P, part by part in the order of the source.
---     pins-in, rules-in, excuses-in      the pins stand in the sheet, and the rules and excuses among the masks
+--     pins-in, rules-in      the pins stand in the sheet, and the rules among the masks
 --     other-wires     the numbers of wires differ
 --     asks-as         with as many wires, the test over what was found
 --     other-pins, unseen-a, unseen-b, more-rules, asks-rest      the ends, each after the parts before it
@@ -7,7 +7,7 @@
 use mathlib.Core.Path.{_≡_, refl, sym, ap, _∙_}
 use mathlib.Core.Bool.{Bool, true, false, not, _&&_}
 use mathlib.Core.List.{List}
-use Prim.Native.Nat.{ℕ, _+_, _-_, _<_, _≤_}
+use Prim.Native.Nat.{ℕ, _+_, _<_, _≤_}
 use native.Mathlib.Omega.{arith}
 use borrow.Author.Tests.{not-true, not-false}
 use lib.ListN.{length, take, drop, length-take, length-drop}
@@ -20,7 +20,7 @@ use Rattle.sheet.specs.JobSheet.{head, job, readJob, wireLimit}
 use Rattle.sheet.proofs.Laws.{accepted-inv, pins-stay}
 use Rattle.wires.specs.Terms.{containsb}
 use Rattle.widener.specs.Asks.{samePins, allWithin, asksb}
-use Rattle.board.proofs.Rules.{slice-from}
+use Rattle.board.proofs.Rules.{behind, behind-is}
 use Rattle.widener.specs.Taking.{TakenAs}
 use Rattle.widener.proofs.Within.{pins-length}
 
@@ -40,16 +40,8 @@ pins-in s h masks j n t e =
     let found : length (j .pins) ≡ length (take (length (j .pins)) (drop 1 s)) = ap length (pins-stay (t .form) s j (t .is)) in
     omega (arith, length-take (length (j .pins)) (drop 1 s), length-drop 1 s, some-byte (t .form) s j (t .is))
 
--- the rules stand at the front of the masks, and the excuses behind them
-abbrev behind : JobHead → List ℕ → List ℕ
-behind h masks = take (length masks - h .rules) (drop (h .rules) masks)
-
-module _ {s : List ℕ} {h : JobHead} (masks : List ℕ) (j : Job) (t : TakenAs s h masks j) where
-  pub rules-in : h .rules ≤ length masks
-  rules-in = omega (arith, t .sized .count)
-
-  pub excuses-in : h .excuses ≤ length (behind h masks)
-  excuses-in = rw (slice-from masks (h .rules)) (omega (arith, t .sized .count, length-drop (h .rules) masks))
+pub rules-in : {s : List ℕ} {h : JobHead} (masks : List ℕ) (j : Job) → TakenAs s h masks j → h .rules ≤ length masks
+rules-in masks j t = omega (arith, t .sized .count)
 
 -- a test with a first part that fails, and with one that passes
 fails-first : (a b c : Bool) → a ≡ b && c → b ≡ false → false ≡ a
@@ -136,4 +128,4 @@ module _ (p q : List ℕ) (hp hq : JobHead) (rp rq : List ℕ) (P Q : Job) (tp :
             more-rules e = fails-first _ _ _ after-b (sym is-w ∙ not-true w e)
 
             pub asks-rest : not w ≡ false → (v : Bool) → v ≡ allWithin (take (hq .excuses) (behind hq rq)) (take (hp .excuses) (behind hp rp)) → v ≡ asksb P Q
-            asks-rest okw v is-v = is-v ∙ rw (slice-from rq (hq .rules), slice-from rp (hp .rules)) (sym (after-first _ _ _ after-b (sym is-w ∙ not-false w okw)))
+            asks-rest okw v is-v = is-v ∙ rw (behind-is hq rq, behind-is hp rp) (sym (after-first _ _ _ after-b (sym is-w ∙ not-false w okw)))

@@ -6,13 +6,13 @@
 --     ends-asks, ends-room, ends-written    tables that fit: Q asks more, no room, and the widened sheet
 -- Assumes nothing.
 use mathlib.Core.Path.{_≡_, refl, sym, ap, ap₂, _∙_}
-use mathlib.Core.Bool.{Bool, true, false, not, _&&_, false≢true}
-use mathlib.Core.List.{List, [], _∷_, _++_}
-use Prim.Native.Nat.{ℕ, suc, _^_, _<_, _≤_}
+use mathlib.Core.Bool.{Bool, true, false, not, and-eq-true-iff}
+use mathlib.Core.List.{List, _++_}
+use Prim.Native.Nat.{ℕ, _^_, _<_, _≤_}
 use native.Mathlib.Omega.{arith}
 use borrow.Author.Tests.{lt-ltb, le-ltb, eq-eqb, ne-eqb}
 use lib.Count.{ones}
-use lib.Dec.{ltb, eqb}
+use lib.Dec.{ltb}
 use lib.ListN.{length, take, drop}
 use Rattle.wires.specs.Wires.{placed}
 use Rattle.wires.proofs.Rows.{row-below}
@@ -44,6 +44,7 @@ use Rattle.sheet.specs.JobFound.{jobHead}
 use Rattle.widener.specs.Taking.{TakenAs, Wide, Widely, sheetFrom, Ended}
 use Rattle.widener.specs.Widened.{Ending, refusing, fitting, judged, withBoth, withP, widened}
 use Rattle.widener.proofs.Tabling.{tabled-same}
+use Rattle.widener.proofs.Within.{pins-length}
 
 -- ---- jobs
 
@@ -122,25 +123,10 @@ module _ (P Q : Job) (l : List ℕ) where
 
 -- ---- both jobs were taken
 
-and-left : (a b : Bool) → a && b ≡ true → a ≡ true
-and-left true b e = refl
-and-left false b e = e
-
-and-right : (a b : Bool) → a && b ≡ true → b ≡ true
-and-right true b e = e
-and-right false b e = absurd (false≢true e)
-
 -- equal pins are equally many
-same-count : (xs ys : List ℕ) → samePins xs ys ≡ true → length xs ≡ length ys
-unfolding samePins
-same-count [] [] e = refl
-same-count [] (y ∷ ys) e = absurd (false≢true e)
-same-count (x ∷ xs) [] e = absurd (false≢true e)
-same-count (x ∷ xs) (y ∷ ys) e = ap suc (same-count xs ys (and-right (eqb x y) (samePins xs ys) e))
-
 asks-count : (P Q : Job) → asksb P Q ≡ true → length (P .pins) ≡ length (Q .pins)
 unfolding asksb
-asks-count P Q e = same-count (P .pins) (Q .pins) (and-left (samePins (P .pins) (Q .pins)) _ e)
+asks-count P Q e = pins-length (P .pins) (Q .pins) (and-eq-true-iff (samePins (P .pins) (Q .pins)) _ .0 e .0)
 
 -- the rows stand in the sheet that was read, so what is written from there is the widened sheet
 sheet-same : (n : ℕ) (P Q : Job) (cs : ℕ) (s xs ys : List ℕ) → readAnswer (2 ^ ones (P .seesA)) (2 ^ ones (P .seesB)) cs s ≡ answered (tables xs ys)

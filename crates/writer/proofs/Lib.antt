@@ -7,4 +7,3 @@ pub mod Sound
 pub mod Stands
 pub mod Found
 pub mod Back
-pub mod Forms

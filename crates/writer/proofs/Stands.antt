@@ -13,18 +13,17 @@ use lib.ListN.{length, length-append}
 use lib.Seq.{getD-append-seam}
 use Rattle.steps.specs.Step.{got, Reading, _>>=_, give}
 use Rattle.steps.specs.Bytes.{byte, word, within, count, wordCount, rising, entry, entries, end}
-use Rattle.steps.proofs.Near.{byte-there}
+use Rattle.steps.proofs.Near.{byte-there, end-read}
 use Rattle.sheet.specs.declared.Form.the-variants.{One}
 use Rattle.sheet.specs.Job.{Job, Head, accepted}
 use Rattle.sheet.specs.JobSheet.{wireLimit, seenLimit, pinLimit, ruleLimit, termsOf, maskOf, mask, countedMask, rules, excuses, head, job, readJob}
 use Rattle.answer.specs.Written.{two}
-use Rattle.answer.proofs.Sheets.{end-read}
 use Rattle.writer.specs.JobWritten.{members, counted, rulesBytes, jobSheet}
 use Rattle.writer.proofs.Masks.{Rising, mask-members}
 use Rattle.writer.proofs.Sound.{IsSet, Rules, Sound}
 
 -- l, after any p and before any t
-unfoldable pub Reads : {A : Type 0} → Reading A → List ℕ → A → Type 0
+Reads : {A : Type 0} → Reading A → List ℕ → A → Type 0
 Reads m l a = (p t : List ℕ) → m (p ++ (l ++ t)) (length p) ≡ got a (length p + length l)
 
 module _ {A B : Type 0} (m : Reading A) where
@@ -67,7 +66,7 @@ word-reads v =
     (reads-then byte _ (v % 256 ∷ []) (v / 256 ∷ []) (v % 256) (v % 256 + 256 * (v / 256)) (byte-reads (v % 256))
     (reads-give byte (λ high. v % 256 + 256 * high) (v / 256 ∷ []) (v / 256) (byte-reads (v / 256))))
 
-pub word-count-reads : (most n : ℕ) → n ≤ most → Reads (wordCount most) (two n) n
+word-count-reads : (most n : ℕ) → n ≤ most → Reads (wordCount most) (two n) n
 unfolding Reads wordCount within
 word-count-reads most n l p t = rw (word-reads n p t, le-leb n most l)
 

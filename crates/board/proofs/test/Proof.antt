@@ -9,12 +9,12 @@ use Prim.Native.Nat.{ℕ, _+_, _*_, _-_, _^_, _<_, _≤_}
 use native.Mathlib.Omega.{arith}
 use borrow.Author.Needs.{needs}
 use borrow.Author.Tests.{not-true, not-false}
-use lib.ListN.{length, getD, take, drop, length-take, length-drop}
+use lib.ListN.{length, getD, take, drop, length-take}
 use lib.Seq.{getD-take, getD-drop}
 use Rattle.wires.specs.Terms.{Truths, Meets, someWithin}
 use Rattle.sheet.specs.declared.JobHead.{JobHead}
 use Rattle.board.specs.JobBoard.{breaksb, excusedb, headBoard, Sized}
-use Rattle.board.proofs.Rules.{slice-from, excused-by, holds-by, breaks-turn, breaks-found, breaks-end}
+use Rattle.board.proofs.Rules.{behind, behind-is, excuses-there, excused-by, holds-by, breaks-turn, breaks-found, breaks-end}
 use Rattle.board.proofs.test.Statement.{statement}
 use Rattle.board.proofs.test.Tie as tie
 
@@ -43,14 +43,8 @@ module _ (n a x y : ℕ) (masks : List ℕ) (set count i : ℕ) (t : Truths n a 
       same : i ≡ count
       same = omega (arith, v .within)
 
--- the excuses, as a slice from the place behind the rules on
+-- the excuses, behind the rules
 module _ (h : JobHead) (masks : List ℕ) (z : Sized h masks) where
-  abbrev behind : List ℕ
-  behind = take (length masks - h .rules) (drop (h .rules) masks)
-
-  room : h .excuses ≤ length behind
-  room = rw (slice-from masks (h .rules)) (omega (arith, length-drop (h .rules) masks, z .count))
-
   abbrev excuses : List ℕ
   excuses = take (h .excuses) (drop (h .rules) masks)
 
@@ -60,9 +54,9 @@ module _ (h : JobHead) (masks : List ℕ) (z : Sized h masks) where
       rw (getD-take (h .excuses) (drop (h .rules) masks) i 0 few, getD-drop (h .rules) masks i 0) (z .excuses i few)
 
   -- the call's answer, and what the board says where it is yes, and no
-  module _ (a x y set : ℕ) (t : Truths (h .wires) a x y set) (r : Bool) (told : r ≡ someWithin (take (h .excuses) behind) set) where
+  module _ (a x y set : ℕ) (t : Truths (h .wires) a x y set) (r : Bool) (told : r ≡ someWithin (take (h .excuses) (behind h masks)) set) where
     tested : excusedb (h .wires) excuses a ≡ r
-    tested = sym (told ∙ rw (slice-from masks (h .rules)) (excused-by (h .wires) a x y excuses set t small))
+    tested = sym (told ∙ rw (behind-is h masks) (excused-by (h .wires) a x y excuses set t small))
 
     waived : r ≡ true → false ≡ headBoard h masks .breaks a x y
     waived e = rw (tested ∙ e)
@@ -95,7 +89,7 @@ cast-some-within : tie.Need-cast-some-within Inv-loop μ-loop
 cast-some-within c = search needs
 
 some-within-requires : tie.Need-some-within-requires Inv-loop μ-loop
-some-within-requires c κs = let s = c .before .before .before .before .before .before in room (s .args .h) (s .args .masks .now) (s .pre .0)
+some-within-requires c κs = let s = c .before .before .before .before .before .before in excuses-there (s .args .h) (s .args .masks .now) (s .pre .0)
 
 returns : tie.Need-returns Inv-loop μ-loop
 returns c =

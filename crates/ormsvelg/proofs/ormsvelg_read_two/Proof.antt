@@ -1,7 +1,7 @@
 -- `ormsvelg::ormsvelg_read_two` meets its contract: what the reader answers fits its number. Assumes nothing.
 use mathlib.Core.Path.{ap, _∙_}
 use borrow.Author.Needs.{needs}
-use Rattle.ormsvelg.specs.Packed.{pack, Packs}
+use Rattle.ormsvelg.specs.Packed.{pack}
 use Rattle.ormsvelg.proofs.Packing.{read-packs}
 use Rattle.ormsvelg.proofs.ormsvelg_read_two.Statement.{statement}
 use Rattle.ormsvelg.proofs.ormsvelg_read_two.Tie as tie

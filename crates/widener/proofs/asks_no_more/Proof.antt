@@ -3,7 +3,8 @@
 use mathlib.Core.Path.{refl}
 use native.Mathlib.Omega.{arith}
 use borrow.Author.Needs.{needs}
-use Rattle.widener.proofs.Asked.{pins-in, rules-in, excuses-in, other-wires, other-pins, unseen-a, unseen-b, more-rules, asks-rest}
+use Rattle.board.proofs.Rules.{excuses-there}
+use Rattle.widener.proofs.Asked.{pins-in, rules-in, other-wires, other-pins, unseen-a, unseen-b, more-rules, asks-rest}
 use Rattle.widener.proofs.asks_no_more.Statement.{statement}
 use Rattle.widener.proofs.asks_no_more.Tie as tie
 
@@ -105,8 +106,8 @@ cast-all-within-2 c = search needs
 all-within-requires-2 : tie.Need-all-within-requires-2
 all-within-requires-2 c κs =
     let start = c .before .before .before .before .before .before .before .before .before .before .before .before .before .before .before .before .before .before .before .before .before .before .pre in
-    let p = excuses-in _ _ (start .0 .1) in
-    let q = excuses-in _ _ (start .1 .1) in
+    let p = excuses-there _ _ (start .0 .1 .sized) in
+    let q = excuses-there _ _ (start .1 .1 .sized) in
     (omega (arith, p, q), omega (arith, p, q))
 
 returns-6 : tie.Need-returns-6
