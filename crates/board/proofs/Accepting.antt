@@ -18,6 +18,7 @@ use Rattle.sheet.specs.declared.JobRead.the-variants.{Accepted}
 use Rattle.sheet.specs.Job.{Job, Verdict, accepted, rejected}
 use Rattle.sheet.specs.JobSheet.{readJob}
 use Rattle.sheet.specs.JobFound.{jobHead, asJob, keptMasks}
+use Rattle.sheet.proofs.Jobs.{job-accepted}
 use Rattle.sheet.proofs.Laws.{rules-front, excuses-next, job-bounds, seen-bounds, excuses-most, excuse-bounds}
 use Rattle.board.specs.Board.{Board}
 use Rattle.board.specs.Check.{judgeSheet, checkOutcome}
@@ -31,10 +32,6 @@ pub record Taken (f : Form) (s : List ℕ) (h : JobHead) (masks : List ℕ) : Ty
   pub head : h ≡ jobHead job
   pub rules-are : take (h .rules) masks ≡ job .rules
   pub excuses-are : take (h .excuses) (drop (h .rules) masks) ≡ job .excuses
-
-accepted-is : (v : Verdict) (h : JobHead) → Accepted h ≡ asJob v → (j : Job) × (v ≡ accepted j) × (h ≡ jobHead j)
-accepted-is (accepted j) h e = (j, refl, cc)
-accepted-is (rejected w) h e = let z : _≡_ {A = ℕ} 0 1 = cc in let no : ⊥ = omega arith in absurd no
 
 module _ (f : Form) (s : List ℕ) (old : List ℕ) (room : length old ≡ 320) where
   abbrev new : List ℕ
@@ -71,7 +68,7 @@ module _ (f : Form) (s : List ℕ) (old : List ℕ) (room : length old ≡ 320) 
 
   pub taken : (x : JobRead) (h : JobHead) (masks : List ℕ) → x ≡ asJob (readJob f s) → x ≡ Accepted h → masks ≡ new → Taken f s h masks
   taken x h masks e p q =
-      let t = accepted-is (readJob f s) h (sym p ∙ e) in
+      let t = job-accepted f s x h e p in
       rw (q, t .2) (head-taken (t .0) (t .1))
 
 pub taken-checked : (f : Form) (s : List ℕ) (h : JobHead) (masks : List ℕ) → Taken f s h masks → (answer : List ℕ) → judgeSheet (headBoard h masks) answer ≡ checkOutcome f s answer

@@ -6,15 +6,17 @@
 --     check-packs, check-found       and for the checker
 --     solve-packs, solve-found       and for the solver
 --     widen-packs, widen-found       and for the widener
+--     move-packs, move-found         and for the mover
 -- Assumes nothing.
 use mathlib.Core.Path.{_≡_, refl, sym, ap, subst, _∙_}
 use mathlib.Core.Bool.{Bool, true, false, not}
-use mathlib.Core.List.{List, _++_}
+use mathlib.Core.List.{List, [], _∷_, _++_}
 use Prim.Native.Nat.{ℕ, _+_, _*_, _/_, _%_, _^_, _<_, _≤_}
 use native.Mathlib.Omega.{arith}
 use borrow.Author.Tests.{ltb-true}
-use lib.Dec.{ltb, eqb}
-use lib.ListN.{length, getD}
+use lib.Dec.{ltb, leb, eqb}
+use lib.ListN.{length, getD, take}
+use lib.Seq.{length-take-le}
 use lib.Pow.{pow-mono}
 use Rattle.steps.specs.declared.Refusal.{Refusal}
 use Rattle.steps.specs.declared.Refusal.the-variants.{Ends, TooMany, NotRising, TooHigh, LeftOver, OtherKind, NotABit, OutOfRange}
@@ -23,9 +25,11 @@ use Rattle.sheet.specs.declared.Form.{Form}
 use Rattle.sheet.specs.declared.Form.the-variants.{One, Two}
 use Rattle.sheet.specs.Job.{Job, Verdict, accepted, rejected}
 use Rattle.steps.specs.Step.{pick}
-use Rattle.steps.specs.Outcome.{codeOf, answerCodeOf, placeOf, success, refusal, refusedJob}
+use Rattle.steps.specs.Outcome.{codeOf, answerCodeOf, placeOf, success, refusal, refusedJob, Ending, refusing, writing}
+use Rattle.steps.proofs.Codes.{code-bounds}
 use Rattle.sheet.specs.JobSheet.{readJob, longest, outcomeOf, readOutcome}
-use Rattle.sheet.proofs.Length.{place-small}
+use Rattle.sheet.proofs.Length.{place-small, accepted-short}
+use Rattle.sheet.proofs.Forms.{form-two}
 use Rattle.sheet.proofs.Laws.{job-bounds, seen-bounds}
 use Rattle.answer.specs.Answer.{Entry, Answer, tables, walk, AnswerVerdict, answered}
 use Rattle.answer.specs.Answer.{rejected as unanswered}
@@ -44,14 +48,16 @@ use Rattle.board.specs.Walk.{entry}
 use Rattle.board.specs.Tests.{amongb}
 use Rattle.board.specs.JobBoard.{jobBoard}
 use Rattle.board.specs.Check.{lowest, faultAt, stepAt, tablesAt, walkAt, judgeTables, judgeWalk, judge, judgeSheet, afterJob, checkOutcome}
-use Rattle.answer.specs.Written.{tablesSheet, walkSheet}
+use Rattle.answer.specs.Written.{two, tablesSheet, walkSheet}
 use Rattle.answer.proofs.Sheets.{tables-length, walk-length}
 use Rattle.solver.specs.Solved.{SolvedOn, Solved, refused, noRoom, solved}
 use Rattle.solver.specs.Solved.{tables as tabled, walk as walked}
 use Rattle.widener.specs.Asks.{asksb}
 use Rattle.widener.specs.Table.{narrowRow, widenTable, widenSheet}
-use Rattle.widener.specs.Widened.{Ending, refusing, writing, fitting, judged, withP, withNone, widened}
+use Rattle.widener.specs.Widened.{fitting, judged, withP, withNone, widened}
 use Rattle.widener.proofs.Tabling.{tabled-length}
+use Rattle.mover.specs.Moved.{excusesAt, toTwo, without, toOne, put, ending, movedTo, moving}
+use Rattle.mover.proofs.Front.{inside}
 use Rattle.ormsvelg.specs.Packed.{pack, unpack, Packs}
 
 module _ (c s p w : ℕ) (hc : c < 2 ^ 8) (hs : s < 2 ^ 8) (hp : p < 2 ^ 24) where
@@ -80,14 +86,7 @@ unpack-pack o h = λ i.
     }
 
 code-small : (w : Refusal) → codeOf w < 2 ^ 8
-code-small (Ends p) = omega arith
-code-small (TooMany p) = omega arith
-code-small (NotRising p) = omega arith
-code-small (TooHigh p) = omega arith
-code-small (LeftOver p) = omega arith
-code-small (OtherKind p) = omega arith
-code-small (NotABit p) = omega arith
-code-small (OutOfRange p) = omega arith
+code-small w = omega (arith, code-bounds w)
 
 -- where a job is refused, in either form
 place-packs : (f : Form) (s : List ℕ) (w : Refusal) → readJob f s ≡ rejected w → placeOf w < 2 ^ 24
@@ -207,8 +206,8 @@ module _ (P Q : Job) (s entry : List ℕ) (few : jobBoard P .combinations ≤ 2 
   judged-packs : (v : AnswerVerdict) → readAnswer (jobBoard P .rowsA) (jobBoard P .rowsB) (jobBoard P .combinations) s ≡ v → Packs (judged P Q v entry .outcome)
   judged-packs (answered (tables xs ys)) e =
       pick-ending (eqb (judgeTables (jobBoard P) (xs ++ ys) .code) 20) (fitting P Q xs ys entry) (refusing (judgeTables (jobBoard P) (xs ++ ys)) entry)
-      (pick-ending (asksb P Q) (pick (ltb (length entry) longestAnswer) (refusing (refusal 6 0 0) entry) (writing (widenSheet P Q xs ys) entry)) (refusing (refusal 14 3 0) entry)
-      (pick-ending (ltb (length entry) longestAnswer) (refusing (refusal 6 0 0) entry) (writing (widenSheet P Q xs ys) entry)
+      (pick-ending (asksb P Q) (pick (ltb (length entry) longestAnswer) (refusing (refusal 6 0 0) entry) (writing 20 (widenSheet P Q xs ys) entry)) (refusing (refusal 14 3 0) entry)
+      (pick-ending (ltb (length entry) longestAnswer) (refusing (refusal 6 0 0) entry) (writing 20 (widenSheet P Q xs ys) entry)
       (refusal-packs 6 0 0 (omega arith) (omega arith) (omega arith)) (success-packs 20 (length (widenSheet P Q xs ys)) (omega arith) (sheet-packs xs ys)))
       (refusal-packs 14 3 0 (omega arith) (omega arith) (omega arith)))
       (judge-packs (jobBoard P) few few-a few-b s (answered (tables xs ys)) e)
@@ -257,3 +256,33 @@ write-packs j room = written-packs (judgeJob j room) (length (jobSheet j)) (judg
 
 pub write-found : (j : Job) (room : ℕ) → unpack (pack (writeOutcome j room)) ≡ writeOutcome j room
 write-found j room = unpack-pack (writeOutcome j room) (write-packs j room)
+
+-- ---- the mover
+
+put-packs : (t entry : List ℕ) → length t < 2 ^ 24 → Packs (put t entry .outcome)
+put-packs t entry l =
+    pick-ending (leb (length t) (length entry)) (writing 0 t entry) (refusing (refusal 6 0 0) entry) (success-packs 0 (length t) (omega arith) l)
+    (refusal-packs 6 0 0 (omega arith) (omega arith) (omega arith))
+
+module _ (s entry : List ℕ) where
+  two-packs : (v : Verdict) → readJob One s ≡ v → Packs (ending (toTwo v s) entry .outcome)
+  two-packs (accepted j) e = put-packs (s ++ two 0) entry (omega (arith, accepted-short Two (s ++ two 0) j (form-two s j e)))
+  two-packs (rejected w) e = refusal-packs (codeOf w) 1 (placeOf w) (code-small w) (omega arith) (place-packs One s w e)
+
+  none-packs : (j : Job) → readJob Two s ≡ accepted j → (es : List ℕ) → Packs (ending (without es s) entry .outcome)
+  none-packs j e [] =
+      let short = accepted-short Two s j e in
+      put-packs (take (excusesAt s) s) entry (omega (arith, inside s j e, length-take-le (excusesAt s) s (omega (arith, inside s j e))))
+  none-packs j e (x ∷ es) = refusal-packs 16 1 (excusesAt s) (omega arith) (omega arith) (omega (arith, inside s j e, accepted-short Two s j e))
+
+  one-packs : (v : Verdict) → readJob Two s ≡ v → Packs (ending (toOne v s) entry .outcome)
+  one-packs (accepted j) e = none-packs j e (j .excuses)
+  one-packs (rejected w) e = refusal-packs (codeOf w) 1 (placeOf w) (code-small w) (omega arith) (place-packs Two s w e)
+
+  pub move-packs : (f : Form) → Packs (moving f s entry .outcome)
+  unfolding moving movedTo
+  move-packs One = one-packs (readJob Two s) refl
+  move-packs Two = two-packs (readJob One s) refl
+
+  pub move-found : (f : Form) → unpack (pack (moving f s entry .outcome)) ≡ moving f s entry .outcome
+  move-found f = unpack-pack (moving f s entry .outcome) (move-packs f)

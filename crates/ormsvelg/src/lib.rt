@@ -9,6 +9,7 @@ ghost use Rattle.sheet.specs.declared.Form.the-variants.{One, Two};
 ghost use Rattle.sheet.specs.JobSheet.{readOutcome};
 ghost use Rattle.writer.specs.JobWritten.{described};
 ghost use Rattle.writer.specs.Writing.{writeOutcome, writeExit};
+ghost use Rattle.mover.specs.Moved.{moving};
 ghost use Rattle.board.specs.Check.{checkOutcome};
 ghost use Rattle.solver.specs.Solved.{Solved};
 ghost use Rattle.widener.specs.Widened.{widened};
@@ -54,6 +55,24 @@ pub extern "C" fn ormsvelg_write(
     ensures { λ r. ⌜ now (sheet .exit) ≡ writeExit (described (now (pins .entry)) «sees_a» «sees_b» (now (rules .entry))) (now (sheet .entry)) ⌝ }
 {
     packed(writer::write_job(pins, sees_a, sees_b, rules, sheet))
+}
+
+// The outcome of moving a job sheet of form one to form two; on success the moved sheet is at the front of the lent buffer.
+#[no_mangle]
+pub extern "C" fn ormsvelg_to_two(job: &[u8], moved: &mut [u8]) -> u64
+    ensures { λ r. ⌜ r ≡ pack (moving Two (now (job .entry)) (now (moved .entry)) .outcome) ⌝ }
+    ensures { λ r. ⌜ now (moved .exit) ≡ moving Two (now (job .entry)) (now (moved .entry)) .exit ⌝ }
+{
+    packed(mover::to_two(job, moved))
+}
+
+// The same from form two back to form one.
+#[no_mangle]
+pub extern "C" fn ormsvelg_to_one(job: &[u8], moved: &mut [u8]) -> u64
+    ensures { λ r. ⌜ r ≡ pack (moving One (now (job .entry)) (now (moved .entry)) .outcome) ⌝ }
+    ensures { λ r. ⌜ now (moved .exit) ≡ moving One (now (job .entry)) (now (moved .entry)) .exit ⌝ }
+{
+    packed(mover::to_one(job, moved))
 }
 
 // The outcome of checking an answer sheet against a job sheet of form one.

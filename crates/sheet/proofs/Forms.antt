@@ -8,13 +8,14 @@ use Prim.Native.Nat.{ℕ, zero, suc, _+_, _≤_}
 use native.Mathlib.Omega.{arith}
 use lib.ListN.{length, length-append, List·getD-append}
 use Rattle.steps.specs.Step.{got}
-use Rattle.steps.specs.Bytes.{word, count, wordCount, entries, end}
+use Rattle.steps.specs.Bytes.{count, wordCount, entries, end}
 use Rattle.steps.proofs.Entries.{next-inv, got-inj, place-same}
-use Rattle.steps.proofs.Near.{Alike, near-word-count, word-next, end-there, end-read}
-use Rattle.steps.proofs.Goes.{Goes, goes-then, goes-give, goes-within, goes-count, goes-word-count, goes-entries}
+use Rattle.steps.proofs.Near.{Alike, word-next, end-there, end-read}
+use Rattle.steps.proofs.Goes.{Goes, goes-then, goes-give, goes-count, goes-word-count, goes-entries}
 use Rattle.sheet.specs.declared.Form.the-variants.{One, Two}
 use Rattle.sheet.specs.Job.{Job, Head, accepted}
 use Rattle.sheet.specs.JobSheet.{wireLimit, seenLimit, pinLimit, ruleLimit, excuseLimit, termsOf, wireTermsOf, maskOf, mask, countedMask, rules, excuses, head, job, readJob}
+use Rattle.sheet.proofs.Heads.{word-count-is}
 use Rattle.sheet.proofs.Jobs.{rules-length}
 use Rattle.sheet.proofs.Laws.{accepted-inv}
 use Rattle.sheet.proofs.Length.{jobOf}
@@ -26,12 +27,12 @@ goes-set : (most limit : ℕ) → Goes (countedMask most limit)
 unfolding countedMask mask
 goes-set most limit = goes-then (count most) _ (goes-count most) (λ n. goes-then (entries n limit 0) _ (goes-entries n limit 0) (λ es. goes-give (maskOf es)))
 
-goes-rules : (n terms : ℕ) → Goes (rules n terms)
+pub goes-rules : (n terms : ℕ) → Goes (rules n terms)
 unfolding rules
 goes-rules zero terms = goes-give []
 goes-rules (suc n) terms = goes-then (countedMask terms terms) _ (goes-set terms terms) (λ r. goes-then (rules n terms) _ (goes-rules n terms) (λ rs. goes-give (r ∷ rs)))
 
-goes-head : Goes head
+pub goes-head : Goes head
 unfolding head
 goes-head =
     goes-then (count wireLimit) _ (goes-count wireLimit) (λ n.
@@ -43,11 +44,8 @@ goes-head =
 
 -- ---- the two forms
 
-word-count-next : (most : ℕ) (s : List ℕ) (at v n : ℕ) → wordCount most s at ≡ got v n → n ≡ at + 2
-unfolding wordCount
-word-count-next most s at v n h =
-    let i = next-inv (word s at) _ v n h in
-    omega (arith, word-next s at (i .0) (i .1) (i .2), goes-within most at (i .0) .on s (i .1) v n (i .3), near-word-count most at .found s v n h)
+pub word-count-next : (most : ℕ) (s : List ℕ) (at v n : ℕ) → wordCount most s at ≡ got v n → n ≡ at + 2
+word-count-next most s at v n h = word-next s at v n (word-count-is most s at v n h)
 
 module _ (s : List ℕ) where
   -- the sheet in form two

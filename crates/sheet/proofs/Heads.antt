@@ -16,13 +16,13 @@ use Rattle.sheet.specs.JobFound.{pinsPass}
 use Rattle.steps.proofs.Entries.{apart, next-inv, got-inj, byte-next, entries-length}
 use Rattle.steps.proofs.Steps.{valueOf, through, through-not}
 
--- a count that was found is within its limit, and its place is the next
-count-is : (most first n v m : ℕ) (s : List ℕ) (at : ℕ) → within most first n s at ≡ got v m → (v ≤ most) × (m ≡ at)
+-- a count that was found is the number there, within its limit, and its place is the next
+count-is : (most first n v m : ℕ) (s : List ℕ) (at : ℕ) → within most first n s at ≡ got v m → (v ≤ most) × (m ≡ at) × (n ≡ v)
 unfolding within
 count-is most first n v m s at h = go (leb n most) _ refl h
   where
-    go : (b : Bool) (w : Refusal) → leb n most ≡ b → pick b (got n at) (refused w) ≡ got v m → (v ≤ most) × (m ≡ at)
-    go true w p h = let e : n ≡ v = cc in let f : m ≡ at = cc in (omega (arith, leb-true n most p), f)
+    go : (b : Bool) (w : Refusal) → leb n most ≡ b → pick b (got n at) (refused w) ≡ got v m → (v ≤ most) × (m ≡ at) × (n ≡ v)
+    go true w p h = let e : n ≡ v = cc in let f : m ≡ at = cc in (omega (arith, leb-true n most p), f, e)
     go false w p h = absurd (apart v m w (sym h))
 
 pub count-bounds : (most : ℕ) (s : List ℕ) (at v m : ℕ) → count most s at ≡ got v m → (v ≤ most) × (m ≡ at + 1)
@@ -35,6 +35,13 @@ count-bounds most s at v m h =
 pub word-count-bounds : (most : ℕ) (s : List ℕ) (at v m : ℕ) → wordCount most s at ≡ got v m → v ≤ most
 unfolding wordCount
 word-count-bounds most s at v m h = let i = next-inv (word s at) _ v m h in count-is most at (i .0) v m s (i .1) (i .3) .0
+
+pub word-count-is : (most : ℕ) (s : List ℕ) (at v m : ℕ) → wordCount most s at ≡ got v m → word s at ≡ got v m
+unfolding wordCount
+word-count-is most s at v m h =
+    let i = next-inv (word s at) _ v m h in
+    let r = count-is most at (i .0) v m s (i .1) (i .3) in
+    i .2 ∙ (λ k. got (r .2 k) (sym (r .1) k))
 
 module _ (s : List ℕ) where
   pub stop₁ : (w : Refusal) → count wireLimit s 0 ≡ refused w → head s 0 ≡ refused w

@@ -12,12 +12,12 @@ use Rattle.sheet.specs.declared.JobHead.{JobHead}
 use Rattle.sheet.specs.declared.JobRead.{JobRead}
 use Rattle.sheet.specs.declared.JobRead.the-variants as jobRead
 use Rattle.steps.specs.Step.{Step, got, refused, next}
-use Rattle.sheet.specs.Job.{Head, Verdict, accepted, rejected}
+use Rattle.sheet.specs.Job.{Job, Head, Verdict, accepted, rejected}
 use Rattle.steps.specs.Outcome.{success, refusedJob}
 use Rattle.sheet.specs.JobSheet.{outcomeOf, readOutcome}
 use Rattle.steps.specs.Bytes.{wordCount, end}
 use Rattle.sheet.specs.JobSheet.{countedMask, rules, excuses, head, job, readJob, termsOf, wireTermsOf, excuseLimit}
-use Rattle.sheet.specs.JobFound.{asJob, rulesPass, excusesPass, termsPass, keptTerms, keptMasks}
+use Rattle.sheet.specs.JobFound.{jobHead, asJob, rulesPass, excusesPass, termsPass, keptTerms, keptMasks}
 use Rattle.steps.proofs.Entries.{next-inv, next-not, got-inj, place-same}
 use Rattle.steps.proofs.Steps.{through-not}
 use Rattle.sheet.proofs.Heads.{head-facts}
@@ -110,6 +110,10 @@ verdict-accepted : (v : Verdict) (x : JobRead) (h : JobHead) → x ≡ asJob v �
 verdict-accepted (accepted j) x h e p = refl
 verdict-accepted (rejected w) x h e p = absurd (apart-jobs x h w p e)
 
+verdict-taken : (v : Verdict) (x : JobRead) (h : JobHead) → x ≡ asJob v → x ≡ jobRead.Accepted h → (j : Job) × (v ≡ accepted j) × (h ≡ jobHead j)
+verdict-taken (accepted j) x h e p = (j, refl, cc)
+verdict-taken (rejected w) x h e p = absurd (apart-jobs x h w p e)
+
 verdict-refused : (v : Verdict) (x : JobRead) (w : Refusal) → x ≡ asJob v → x ≡ jobRead.Refused w → v ≡ rejected w
 verdict-refused (accepted j) x w e p = absurd (apart-jobs x _ w e p)
 verdict-refused (rejected w′) x w e p = cc
@@ -117,6 +121,9 @@ verdict-refused (rejected w′) x w e p = cc
 module _ (f : Form) (s : List ℕ) (x : JobRead) where
   pub job-refused : (w : Refusal) → x ≡ asJob (readJob f s) → x ≡ jobRead.Refused w → readJob f s ≡ rejected w
   job-refused w e p = verdict-refused (readJob f s) x w e p
+
+  pub job-accepted : (h : JobHead) → x ≡ asJob (readJob f s) → x ≡ jobRead.Accepted h → (j : Job) × (readJob f s ≡ accepted j) × (h ≡ jobHead j)
+  job-accepted h e p = verdict-taken (readJob f s) x h e p
 
   pub read-accepted : (h : JobHead) → x ≡ asJob (readJob f s) → x ≡ jobRead.Accepted h → success 0 0 ≡ readOutcome f s
   unfolding readOutcome

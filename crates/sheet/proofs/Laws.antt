@@ -3,6 +3,7 @@
 --     rules-front, excuses-next     the lent array begins with the rules, and after them the excuses
 --     job-bounds, seen-bounds, rule-bounds, excuses-most, excuse-bounds      how many pins, rules, excuses and seen wires there are, and what each set is below
 --     none-excused    in form one a job has no excuses
+--     Sections        where its sections stand
 -- Assumes nothing.
 use mathlib.Core.Path.{_≡_, sym, ap, _∙_}
 use mathlib.Core.List.{List, [], _∷_, _++_, append-assoc}
@@ -22,6 +23,7 @@ use Rattle.steps.specs.Bytes.{entry, entries, count, wordCount, end}
 use Rattle.sheet.specs.JobSheet.{maskOf, mask, countedMask, rules, excuses, head, job, readJob, verdictOf, termsOf, wireTermsOf, wireLimit, seenLimit, ruleLimit, excuseLimit, pinLimit}
 use Rattle.sheet.specs.JobFound.{rulesPass, kept, keptExcuses, keptTerms, keptMasks}
 use Rattle.steps.proofs.Entries.{next-inv, got-inj, entry-bounds, entry-byte}
+use Rattle.steps.proofs.Near.{end-there}
 use Rattle.sheet.proofs.Heads.{count-bounds, word-count-bounds, head-facts}
 use Rattle.sheet.proofs.Jobs.{rules-length}
 use Rattle.sheet.proofs.Ones.{counted-ones}
@@ -138,19 +140,20 @@ excuses-few Two n s at es m h =
     (rw k (word-count-bounds excuseLimit s at (i .0) (i .1) (i .2)), rules-lt (i .0) (wireTermsOf n) s (i .1) es m (i .3))
 
 -- the sections of a sheet that is accepted
-record Sections (f : Form) (s : List ℕ) (j : Job) : Type 0 where
-  top : Head
-  at-rules : ℕ
-  at-excuses : ℕ
-  last : ℕ
-  head-is : head s 0 ≡ got top at-rules
-  rules-are : rules (top .count) (termsOf (top .wires)) s at-rules ≡ got (j .rules) at-excuses
-  excuses-are : excuses f (top .wires) s at-excuses ≡ got (j .excuses) last
+pub record Sections (f : Form) (s : List ℕ) (j : Job) : Type 0 where
+  pub top : Head
+  pub at-rules : ℕ
+  pub at-excuses : ℕ
+  pub last : ℕ
+  pub head-is : head s 0 ≡ got top at-rules
+  pub rules-are : rules (top .count) (termsOf (top .wires)) s at-rules ≡ got (j .rules) at-excuses
+  pub excuses-are : excuses f (top .wires) s at-excuses ≡ got (j .excuses) last
+  pub ends : length s ≤ last
   pins-are : j .pins ≡ top .pins
   a-is : j .seesA ≡ top .seesA
   b-is : j .seesB ≡ top .seesB
 
-sections : (f : Form) (s : List ℕ) (j : Job) → readJob f s ≡ accepted j → Sections f s j
+pub sections : (f : Form) (s : List ℕ) (j : Job) → readJob f s ≡ accepted j → Sections f s j
 unfolding readJob job
 sections f s j ok =
     let a = accepted-inv (job f s 0) j ok in
@@ -167,6 +170,7 @@ sections f s j ok =
       head-is = i .2;
       rules-are = r .2 ∙ ap (λ (k : Job). got (k .rules) (r .1)) same;
       excuses-are = x .2 ∙ ap (λ (k : Job). got (k .excuses) (x .1)) same;
+      ends = end-there s (x .1) (e .0) (e .1) (e .2);
       pins-are = sym (ap (λ (k : Job). k .pins) same);
       a-is = sym (ap (λ (k : Job). k .seesA) same);
       b-is = sym (ap (λ (k : Job). k .seesB) same);

@@ -14,7 +14,7 @@ use lib.Dec.{eqb}
 use lib.ListN.{length, drop}
 use borrow.Author.Tests.{eqb-true, le-ltb, not-true}
 use Rattle.steps.specs.declared.Outcome.{Outcome}
-use Rattle.steps.specs.Outcome.{success}
+use Rattle.steps.specs.Outcome.{success, writing}
 use Rattle.sheet.specs.declared.Form.{Form}
 use Rattle.sheet.specs.Job.{Job, Verdict, accepted, rejected}
 use Rattle.sheet.specs.JobSheet.{readJob}
@@ -37,7 +37,7 @@ use Rattle.solver.specs.Solved as solver
 use Rattle.solver.proofs.Demand.{tables-iff, walk-stands, SameEnding, same-ending}
 use Rattle.widener.specs.Asks.{asksb}
 use Rattle.widener.specs.Table.{widenSheet}
-use Rattle.widener.specs.Widened.{writing, judged, withP, withNone, widened}
+use Rattle.widener.specs.Widened.{judged, withP, withNone, widened}
 use Rattle.shown.specs.Cases.{Case, solves, walks, stands, judges, widens, OnBoard, Solves, Walks, Holds}
 use Rattle.shown.proofs.Tests.{sameb, outcomeb, noneb, leastb, firstb, firstSheetb, read, solvesb, walksb, standsOnb, judgesb, widensWithb, widensTob, widensb, passes}
 
@@ -176,21 +176,21 @@ stands-holds form job es (rejected w) is e = absurd (false≢true e)
 -- ---- the widener
 
 wide-answer : (P Q : Job) (v : AnswerVerdict) (sheet : List ℕ) → widensWithb P Q v sheet ≡ true
-    → (entry : List ℕ) → longest ≤ length entry → judged P Q v entry ≡ writing sheet entry
+    → (entry : List ℕ) → longest ≤ length entry → judged P Q v entry ≡ writing 20 sheet entry
 wide-answer P Q (answered (tables xs ys)) sheet e entry room =
     let t = and-eq-true-iff (eqb (judgeTables (jobBoard P) (xs ++ ys) .code) 20) _ .0 e in
     let u = and-eq-true-iff (asksb P Q) (sameb (widenSheet P Q xs ys) sheet) .0 (t .1) in
-    rw (t .0, u .0, le-ltb (length entry) longest room) (ap (λ (s : List ℕ). writing s entry) (sameb-true (widenSheet P Q xs ys) sheet (u .1)))
+    rw (t .0, u .0, le-ltb (length entry) longest room) (ap (λ (s : List ℕ). writing 20 s entry) (sameb-true (widenSheet P Q xs ys) sheet (u .1)))
 wide-answer P Q (answered (walk es)) sheet e entry room = absurd (false≢true e)
 wide-answer P Q (unanswered w) sheet e entry room = absurd (false≢true e)
 
 wide-to : (P : Job) (v : Verdict) (answer sheet : List ℕ) → widensTob P v answer sheet ≡ true
-    → (entry : List ℕ) → longest ≤ length entry → withP P v answer entry ≡ writing sheet entry
+    → (entry : List ℕ) → longest ≤ length entry → withP P v answer entry ≡ writing 20 sheet entry
 wide-to P (accepted Q) answer sheet e = wide-answer P Q (read (jobBoard P) answer) sheet e
 wide-to P (rejected w) answer sheet e = absurd (false≢true e)
 
 wide-from : (form : Form) (v : Verdict) (q answer sheet : List ℕ) → widensb form v q answer sheet ≡ true
-    → (entry : List ℕ) → longest ≤ length entry → withNone form v q answer entry ≡ writing sheet entry
+    → (entry : List ℕ) → longest ≤ length entry → withNone form v q answer entry ≡ writing 20 sheet entry
 wide-from form (accepted P) q answer sheet e = wide-to P (readJob form q) answer sheet e
 wide-from form (rejected w) q answer sheet e = absurd (false≢true e)
 

@@ -10,7 +10,7 @@ use mathlib.Core.List.{List}
 use Prim.Native.Nat.{ℕ, _≤_}
 use lib.ListN.{length}
 use Rattle.steps.specs.declared.Outcome.{Outcome}
-use Rattle.steps.specs.Outcome.{success}
+use Rattle.steps.specs.Outcome.{success, writing}
 use Rattle.sheet.specs.declared.Form.{Form}
 use Rattle.sheet.specs.Job.{Job, accepted}
 use Rattle.sheet.specs.JobSheet.{readJob}
@@ -23,7 +23,7 @@ use Rattle.board.specs.Walk.{Stands}
 use Rattle.board.specs.JobBoard.{jobBoard}
 use Rattle.board.specs.Check.{checkOutcome}
 use Rattle.solver.specs.Solved.{Wrote, Solved}
-use Rattle.widener.specs.Widened.{widened, writing}
+use Rattle.widener.specs.Widened.{widened}
 
 pub data Case : Type 0 where
   -- the solver answers the job with this sheet of tables
@@ -61,7 +61,7 @@ Judges f job answer outcome = checkOutcome f job answer ≡ outcome
 
 -- in every buffer with room
 abbrev pub Widens : (f : Form) (p q answer sheet : List ℕ) → Type 0
-Widens f p q answer sheet = (entry : List ℕ) → longest ≤ length entry → widened f p q answer entry ≡ writing sheet entry
+Widens f p q answer sheet = (entry : List ℕ) → longest ≤ length entry → widened f p q answer entry ≡ writing 20 sheet entry
 
 abbrev pub Holds : Case → Type 0
 Holds (solves f job sheet) = Solves f job sheet

@@ -8,19 +8,17 @@
 use mathlib.Core.Path.{_≡_, ap, _∙_}
 use mathlib.Core.List.{List, _++_}
 use Prim.Native.Nat.{ℕ, _+_, _-_, _/_, _<_, _≤_}
-use native.Mathlib.Nat.{zero-add}
 use native.Mathlib.Omega.{arith}
 use lib.ListN.{length, take, drop, length-append, length-drop}
-use lib.Seq.{sets, sets-eq, length-sets, take-all, length-take-le}
+use lib.Seq.{sets, length-sets, take-all, length-take-le}
 use Rattle.answer.specs.AnswerSheet.{longest}
 use Rattle.answer.specs.Written.{two, table, tablesSheet}
-use Rattle.steps.proofs.Runs.{joined}
+use Rattle.steps.proofs.Runs.{at-front, joined}
 use Rattle.answer.proofs.Sheets.{tables-length}
 use Rattle.solver.specs.Solved.{Wrote}
 
 pub wrote : (sheet l exit : List ℕ) → length sheet ≤ length l → exit ≡ sets l 0 sheet → Wrote sheet l exit
-wrote sheet l exit fits e =
-    e ∙ sets-eq sheet l 0 (rw (zero-add (length sheet)) fits) ∙ ap (λ (n : ℕ). sheet ++ drop n l) (zero-add (length sheet))
+wrote sheet l exit fits e = e ∙ at-front l sheet fits
 
 module _ (xs ys l l₁ l₂ l₃ : List ℕ) (m₁ m₂ m₃ : ℕ) (room : 6 + length xs + length ys ≤ length l)
     (e₁ : l₁ ≡ sets l 0 (table xs)) (p₁ : m₁ ≡ 0 + 2 + length xs)

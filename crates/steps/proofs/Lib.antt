@@ -3,3 +3,4 @@ pub mod Entries
 pub mod Near
 pub mod Goes
 pub mod Runs
+pub mod Codes

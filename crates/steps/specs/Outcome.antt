@@ -1,8 +1,12 @@
 -- Outcomes (document 01, "Outcome numbers").
 --     codeOf, answerCodeOf, placeOf    the paper's number and place of each refusal, of a job sheet and of an answer sheet
 --     success, refusal   the two kinds of outcome
+--     Ending, Ended      how a call with a lent buffer ends
 -- Assumes nothing: these are definitions.
 use Prim.Native.Nat.{ℕ}
+use mathlib.Core.Path.{_≡_}
+use mathlib.Core.List.{List, _++_}
+use lib.ListN.{length, drop}
 use Rattle.steps.specs.declared.Refusal.{Refusal}
 use Rattle.steps.specs.declared.Refusal.the-variants.{Ends, TooMany, NotRising, TooHigh, LeftOver, OtherKind, NotABit, OutOfRange}
 use Rattle.steps.specs.declared.Outcome.{Outcome}
@@ -57,3 +61,21 @@ refusedJob s w = refusal (codeOf w) s (placeOf w)
 -- Codes 7 to 13 name sheet 2.
 abbrev pub refusedAnswer : Refusal → Outcome
 refusedAnswer w = refusal (answerCodeOf w) 2 (placeOf w)
+
+-- How a call ends: an outcome, and what the lent buffer holds.
+pub record Ending : Type 0 where
+  pub outcome : Outcome
+  pub exit : List ℕ
+
+-- Refusals write 0 bytes; all buffers keep their contents.
+abbrev pub refusing : Outcome → List ℕ → Ending
+refusing o entry = record { outcome = o; exit = entry }
+
+-- A success writes exactly one sheet; bytes beyond the written length stay unchanged.
+abbrev pub writing : (code : ℕ) (sheet entry : List ℕ) → Ending
+writing c sheet entry = record { outcome = success c (length sheet); exit = sheet ++ drop (length sheet) entry }
+
+-- a call ended so
+pub record Ended (e : Ending) (o : Outcome) (exit : List ℕ) : Type 0 where
+  pub outcome : o ≡ e .outcome
+  pub exit-is : exit ≡ e .exit

@@ -15,8 +15,8 @@ use lib.Pow.{pow-mono}
 use lib.Seq.{take-at, drop-at, getD-at, getD-append-add}
 use Rattle.steps.specs.declared.Outcome.{Outcome}
 use Rattle.steps.specs.declared.Refusal.{Refusal}
-use Rattle.steps.specs.declared.Refusal.the-variants.{Ends, TooMany, NotRising, TooHigh, LeftOver, OtherKind, NotABit, OutOfRange}
-use Rattle.steps.specs.Outcome.{codeOf, success, refusedJob}
+use Rattle.steps.specs.Outcome.{success, refusedJob}
+use Rattle.steps.proofs.Codes.{code-bounds}
 use Rattle.sheet.specs.declared.Form.{Form}
 use Rattle.sheet.specs.declared.Form.the-variants.{One, Two}
 use Rattle.sheet.specs.Job.{Job, accepted, rejected}
@@ -140,16 +140,6 @@ job-short : (form : Form) → longestJob form + 1 < 10000
 job-short One = omega arith
 job-short Two = omega arith
 
-code-low : (w : Refusal) → codeOf w < 20
-code-low (Ends p) = omega arith
-code-low (TooMany p) = omega arith
-code-low (NotRising p) = omega arith
-code-low (TooHigh p) = omega arith
-code-low (LeftOver p) = omega arith
-code-low (OtherKind p) = omega arith
-code-low (NotABit p) = omega arith
-code-low (OutOfRange p) = omega arith
-
 code-of : {o p : Outcome} → o ≡ p → o .code ≡ p .code
 code-of e = ap (λ (x : Outcome). x .code) e
 
@@ -210,12 +200,12 @@ module _ (form : Form) (job entry s : List ℕ) (o : Outcome) (room : longest �
       }
 
   tables-end : Solved form job entry o s → o .code ≡ 20 → TablesEnd form job s
-  tables-end (refused w e p q) c = let no : ⊥ = omega (arith, code-of p, code-low w) in absurd no
+  tables-end (refused w e p q) c = let no : ⊥ = omega (arith, code-of p, code-bounds w) in absurd no
   tables-end (noRoom j e l p q) c = let no : ⊥ = omega arith in absurd no
   tables-end (solved j e l on) c = tables-on j e on c
 
   walk-end : Solved form job entry o s → o .code ≡ 21 → WalkEnd form job s
-  walk-end (refused w e p q) c = let no : ⊥ = omega (arith, code-of p, code-low w) in absurd no
+  walk-end (refused w e p q) c = let no : ⊥ = omega (arith, code-of p, code-bounds w) in absurd no
   walk-end (noRoom j e l p q) c = let no : ⊥ = omega arith in absurd no
   walk-end (solved j e l on) c = walk-on j e on c
 

@@ -20,7 +20,7 @@ use Rattle.steps.specs.declared.Outcome.{Outcome}
 use Rattle.steps.specs.declared.Refusal.{Refusal}
 use Rattle.steps.specs.declared.Refusal.the-variants.{Ends, TooMany, NotRising, TooHigh, LeftOver, OtherKind, NotABit, OutOfRange}
 use Rattle.steps.specs.Step.{pick}
-use Rattle.steps.specs.Outcome.{success, refusal, refusedJob, answerCodeOf}
+use Rattle.steps.specs.Outcome.{success, refusal, refusedJob, answerCodeOf, Ending, refusing, Ended}
 use Rattle.sheet.specs.declared.Form.{Form}
 use Rattle.sheet.specs.declared.JobHead.{JobHead}
 use Rattle.sheet.specs.Job.{Job, accepted, rejected}
@@ -41,8 +41,8 @@ use Rattle.board.proofs.Judging.{tables-in}
 use Rattle.widener.specs.Asks.{samePins, asksb}
 use Rattle.widener.specs.Table.{narrowRow, widenTable, widenSheet}
 use Rattle.sheet.specs.JobFound.{jobHead}
-use Rattle.widener.specs.Taking.{TakenAs, Wide, Widely, sheetFrom, Ended}
-use Rattle.widener.specs.Widened.{Ending, refusing, fitting, judged, withBoth, withP, widened}
+use Rattle.widener.specs.Taking.{TakenAs, Wide, Widely, sheetFrom}
+use Rattle.widener.specs.Widened.{fitting, judged, withBoth, withP, widened}
 use Rattle.widener.proofs.Tabling.{tabled-same}
 use Rattle.widener.proofs.Within.{pins-length}
 

@@ -2,14 +2,12 @@
 --     TakenAs, IsTaken      a job sheet was accepted, and its numbers, rules and excuses are those found
 --     Widens        what `widen_table` asks
 --     Wide, Widely  what `write_wide` asks and leaves
---     Ended         a call ended so
 -- Assumes nothing: these are definitions.
 use mathlib.Core.Path.{_≡_}
 use mathlib.Core.List.{List, _++_}
 use Prim.Native.Nat.{ℕ, _+_, _^_, _<_, _≤_}
 use lib.Count.{ones}
 use lib.ListN.{length, getD, take, drop}
-use Rattle.steps.specs.declared.Outcome.{Outcome}
 use Rattle.sheet.specs.declared.Form.{Form}
 use Rattle.sheet.specs.declared.JobHead.{JobHead}
 use Rattle.sheet.specs.Job.{Job, accepted}
@@ -20,7 +18,6 @@ use Rattle.answer.specs.Written.{tablesSheet}
 use Rattle.board.specs.JobBoard.{Sized}
 use Rattle.board.specs.Places.{TablesIn}
 use Rattle.widener.specs.Table.{narrowRow, tabled}
-use Rattle.widener.specs.Widened.{Ending}
 
 pub record TakenAs (s : List ℕ) (h : JobHead) (masks : List ℕ) (j : Job) : Type 0 where
   pub form : Form
@@ -60,7 +57,3 @@ pub record Widely (hp hq : JobHead) (s entry exit : List ℕ) (r : ℕ) : Type 0
   pub long : (n : ℕ) → r ≡ length (sheetFrom n hp hq s)
   pub wrote : (n : ℕ) → hp .«sees_a» < 2 ^ n → hp .«sees_b» < 2 ^ n → hq .«sees_a» < 2 ^ n → hq .«sees_b» < 2 ^ n
       → exit ≡ sheetFrom n hp hq s ++ drop r entry
-
-pub record Ended (e : Ending) (o : Outcome) (exit : List ℕ) : Type 0 where
-  pub outcome : o ≡ e .outcome
-  pub exit-is : exit ≡ e .exit

@@ -1,15 +1,14 @@
 -- How a widener call ends, for either form and every four byte lists (document 01, "Outcome numbers").
---     Ending        an outcome, and what the lent buffer holds
 --     widened       the ending
 -- Widener: P's 1–5, Q's, then the checker's refusals, 15, 14, 6. Assumes nothing: these are definitions.
 use mathlib.Core.Bool.{Bool}
 use mathlib.Core.List.{List, _++_}
 use Prim.Native.Nat.{ℕ}
 use lib.Dec.{ltb, eqb}
-use lib.ListN.{length, drop}
+use lib.ListN.{length}
 use Rattle.steps.specs.declared.Outcome.{Outcome}
 use Rattle.steps.specs.Step.{pick}
-use Rattle.steps.specs.Outcome.{success, refusal, refusedJob, refusedAnswer}
+use Rattle.steps.specs.Outcome.{refusal, refusedJob, refusedAnswer, Ending, refusing, writing}
 use Rattle.sheet.specs.declared.Form.{Form}
 use Rattle.sheet.specs.Job.{Job, Verdict, accepted, rejected}
 use Rattle.sheet.specs.JobSheet.{readJob}
@@ -22,22 +21,10 @@ use Rattle.board.specs.Check.{judgeTables, judgeWalk}
 use Rattle.widener.specs.Asks.{asksb}
 use Rattle.widener.specs.Table.{widenSheet}
 
-pub record Ending : Type 0 where
-  pub outcome : Outcome
-  pub exit : List ℕ
-
--- Refusals write 0 bytes; all buffers keep their contents.
-abbrev pub refusing : Outcome → List ℕ → Ending
-refusing o entry = record { outcome = o; exit = entry }
-
--- A success writes exactly one answer sheet; bytes beyond the written length stay unchanged.
-abbrev pub writing : (sheet entry : List ℕ) → Ending
-writing sheet entry = record { outcome = success 20 (length sheet); exit = sheet ++ drop (length sheet) entry }
-
 -- tables that fit P. 14: Q does not ask no more than P (sheet 3). 6: buffer under 8,190 bytes (sheet 0)
 abbrev pub fitting : (P Q : Job) → (xs ys entry : List ℕ) → Ending
 fitting P Q xs ys entry =
-    pick (asksb P Q) (pick (ltb (length entry) longest) (refusing (refusal 6 0 0) entry) (writing (widenSheet P Q xs ys) entry))
+    pick (asksb P Q) (pick (ltb (length entry) longest) (refusing (refusal 6 0 0) entry) (writing 20 (widenSheet P Q xs ys) entry))
     (refusing (refusal 14 3 0) entry)
 
 -- the answer against P. 15: answer is a standing walk where tables are needed (sheet 2)

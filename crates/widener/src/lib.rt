@@ -20,6 +20,7 @@ ghost use Prim.Native.Nat.{ℕ, _+_, _^_, _<_, _≤_};
 ghost use lib.Count.{ones};
 ghost use lib.ListN.{length, getD, take, drop};
 ghost use lib.Seq.{sets};
+ghost use Rattle.steps.specs.Outcome.{Ended};
 ghost use Rattle.sheet.specs.Job.{Job};
 ghost use Rattle.sheet.specs.JobSheet.{readJob};
 ghost use Rattle.answer.specs.AnswerSheet.{longest};
@@ -27,7 +28,7 @@ ghost use Rattle.answer.specs.Written.{table};
 ghost use Rattle.board.specs.JobBoard.{Sized};
 ghost use Rattle.widener.specs.Asks.{samePins, allWithin, asksb};
 ghost use Rattle.widener.specs.Table.{tabled, narrowRow};
-ghost use Rattle.widener.specs.Taking.{TakenAs, IsTaken, Widens, Wide, Widely, Ended};
+ghost use Rattle.widener.specs.Taking.{TakenAs, IsTaken, Widens, Wide, Widely};
 ghost use Rattle.widener.specs.Widened.{withBoth, withP, widened};
 
 // Are the `n` pins of two job sheets equal, byte by byte? They stand from place 1 on.

@@ -8,18 +8,19 @@ use mathlib.Core.Path.{_≡_, refl, sym, ap, _∙_}
 use mathlib.Core.Bool.{Bool, true, false}
 use mathlib.Core.List.{List, _++_}
 use Prim.Native.Nat.{ℕ, _+_, _-_, _/_, _^_, _≤_, _<_}
-use native.Mathlib.Nat.{div-le-self, zero-add}
+use native.Mathlib.Nat.{div-le-self}
 use native.Mathlib.Numerals.{add-one}
 use native.Mathlib.Omega.{arith}
 use borrow.Author.Tests.{le-leb, lt-leb, leb-true}
 use lib.Count.{ones}
 use lib.Dec.{leb}
 use lib.ListN.{length, getD, drop, drop-of-length-le}
-use lib.Seq.{sets, sets-eq, drop-cons}
+use lib.Seq.{sets, drop-cons}
 use Rattle.steps.specs.Outcome.{success, refusal}
 use Rattle.steps.specs.Step.{pick}
 use Rattle.sheet.specs.Job.{Job}
 use Rattle.sheet.specs.JobSheet.{wireLimit, ruleLimit, termsOf}
+use Rattle.steps.proofs.Runs.{at-front}
 use Rattle.writer.specs.declared.Judged.{Judged}
 use Rattle.writer.specs.declared.Judged.the-variants.{Fine, Amiss}
 use Rattle.writer.specs.JobWritten.{members, jobSheet}
@@ -213,9 +214,7 @@ module _ (j : Job) (buf : List ℕ) (fine : judge j (length buf) ≡ Fine) where
 
   pub stored-exit : (after : List ℕ) → after ≡ sets buf 0 (jobSheet j) → after ≡ writeExit j buf
   stored-exit after g =
-      let from : 0 + length (jobSheet j) ≡ length (jobSheet j) = zero-add (length (jobSheet j)) in
-      let fits : 0 + length (jobSheet j) ≤ length buf = omega (arith, judge-fine j (length buf) fine .2) in
-      g ∙ sets-eq (jobSheet j) buf 0 fits ∙ ap (λ (k : ℕ). jobSheet j ++ drop k buf) from ∙ sym fine-exit
+      g ∙ at-front buf (jobSheet j) (omega (arith, judge-fine j (length buf) fine .2)) ∙ sym fine-exit
 
 module _ (j : Job) (buf : List ℕ) (c s p : ℕ) (amiss : judge j (length buf) ≡ Amiss c s p) where
   pub amiss-outcome : writeOutcome j (length buf) ≡ refusal c s p
