@@ -1,7 +1,7 @@
 # Ormsvelg: what there is to run. Build outputs go to build/, what rt proves and writes to target/.
 #   make test                         the whole gate, .ci/run
 #   make run JOB=FILE                 the answer for a job sheet, as the bench prints it
-#   make build/ormsvelg               the command: ormsvelg read, solve, check, widen and write for files, in words
+#   make build/ormsvelg               the command: ormsvelg read, solve, check, widen, write and move for files, in words
 #   make read JOB=FILE                what the command says of a job sheet
 #   make check JOB=FILE ANSWER=FILE   what the command says of an answer sheet for a job sheet
 #   make run, read, check FORM=2      the same for a job sheet of form two
@@ -17,7 +17,7 @@ COUNT ?=
 # The form of the job sheets.
 FORM ?= 1
 
-VERSION = 0.3.0
+VERSION = 0.4.0
 PREFIX ?= /usr/local
 LIBRARY = target/staticlib/libormsvelg.a
 BENCH = target/bin/bench
@@ -42,7 +42,8 @@ $(BENCH) $(BENCH2): target/bin/%: $(PROVED)
 	@rt check $* >&2
 	@touch $@
 
-COMMAND = host/ormsvelg.c host/describe.h host/save.h host/sheet.h host/words.h include/ormsvelg.h Makefile tools/x86 $(LIBRARY)
+COMMAND = host/ormsvelg.c $(addprefix host/,archive.h describe.h request.h save.h sheet.h words.h) include/ormsvelg.h Makefile \
+    tools/x86 $(LIBRARY)
 
 build/ormsvelg: $(COMMAND)
 	@mkdir -p build
@@ -78,7 +79,7 @@ install: build/ormsvelg
 	sed '/^#/d; s|@PREFIX@|$(PREFIX)|; s|@VERSION@|$(VERSION)|' host/ormsvelg.pc.in >build/ormsvelg.pc
 	install -m 644 build/ormsvelg.pc "$(TO)/lib/pkgconfig/ormsvelg.pc"
 
-TESTS = build/test build/test_two build/test_solve build/test_widen build/test_write
+TESTS = build/test build/test_two build/test_solve build/test_widen build/test_write build/test_move
 TESTED = host/guarded.h host/lent.h host/listed.h include/ormsvelg.h tools/x86 $(LIBRARY)
 
 $(TESTS): build/%: host/%.c $(TESTED)
@@ -95,6 +96,7 @@ host-test: $(TESTS) build/ormsvelg $(BENCH) $(BENCH2)
 	tools/x86 run build/test_solve
 	tools/x86 run build/test_widen
 	tools/x86 run build/test_write
+	tools/x86 run build/test_move
 	host/test_command.sh build/ormsvelg
 	host/test_bench.sh $(BENCH) $(BENCH2) build/ormsvelg
 	host/test_install.sh
@@ -110,6 +112,7 @@ host-test-sanitized: $(TESTS:=-sanitized) build/ormsvelg-sanitized
 	tools/x86 run build/test_solve-sanitized
 	tools/x86 run build/test_widen-sanitized
 	tools/x86 run build/test_write-sanitized
+	tools/x86 run build/test_move-sanitized
 	host/test_command.sh build/ormsvelg-sanitized
 
 build/drive: host/drive.c tools/x86 $(LIBRARY)

@@ -31,13 +31,20 @@ static inline int take(FILE *file, uint8_t *bytes, size_t room, size_t *length)
     return errno != 0 ? errno : EIO;
 }
 
-/* Takes a file's bytes. Gives 0, once it has said why, where the file can't be read. */
-static inline int load(const char *path, uint8_t *bytes, size_t room, size_t *length)
+/* Takes a named file's bytes. Gives 0 or why it can't be read. */
+static inline int fetch(const char *path, uint8_t *bytes, size_t room, size_t *length)
 {
     FILE *file = is_standard_input(path) ? stdin : fopen(path, "rb");
     int why = file == NULL ? errno : take(file, bytes, room, length);
     if (file != NULL && file != stdin)
         fclose(file);
+    return why;
+}
+
+/* Takes a named file's bytes. Gives 0, once it has said why, where the file can't be read. */
+static inline int load(const char *path, uint8_t *bytes, size_t room, size_t *length)
+{
+    int why = fetch(path, bytes, room, length);
     if (why != 0)
         fprintf(stderr, "ormsvelg: cannot read %s: %s\n", is_standard_input(path) ? "standard input" : path, strerror(why));
     return why == 0;

@@ -91,6 +91,13 @@ static inline void show_job(const uint8_t *job, int form)
         show_section(&as_excuse, board.wires, excuses);
 }
 
+/* A job sheet that was made: its length and what it holds. */
+static inline void show_made(const uint8_t *job, uint32_t length, int form)
+{
+    printf("sheet of %u bytes\n", (unsigned)length);
+    show_job(job, form);
+}
+
 /* The wires' states in a combination: the wire at position p has weight 2^p. */
 static inline void show_wires(unsigned wires, unsigned combination)
 {
@@ -156,6 +163,7 @@ static inline const char *reason(uint32_t code)
         return "job Q asks more than job P: other pins, a wire less, a rule that contains no rule of P, or an excuse of P "
                "that contains no excuse of Q";
     case ORMSVELG_WALK_GIVEN: return "answer is a walk where tables are needed";
+    case ORMSVELG_EXCUSES_LOST: return "job has excuses, which a sheet of form 1 cannot hold";
     default: return "a code that is not in use";
     }
 }
@@ -174,14 +182,21 @@ static inline const char *place_word(uint32_t code)
     }
 }
 
+/* A refusal by its code, sheet and place, as a line. */
+static inline void show_refused(FILE *out, uint64_t outcome)
+{
+    uint32_t code = ormsvelg_code(outcome);
+    fprintf(out, "refused: code %u on sheet %u", (unsigned)code, (unsigned)ormsvelg_sheet(outcome));
+    if (place_word(code) != NULL)
+        fprintf(out, " at %s %u", place_word(code), (unsigned)ormsvelg_place(outcome));
+    fprintf(out, ": %s\n", reason(code));
+}
+
 /* A refusal, and for a combination or an entry what it is. */
 static inline void show_refusal(uint64_t outcome, const uint8_t *job, const uint8_t *answer)
 {
     uint32_t code = ormsvelg_code(outcome), place = ormsvelg_place(outcome);
-    printf("refused: code %u on sheet %u", (unsigned)code, (unsigned)ormsvelg_sheet(outcome));
-    if (place_word(code) != NULL)
-        printf(" at %s %u", place_word(code), (unsigned)place);
-    printf(": %s\n", reason(code));
+    show_refused(stdout, outcome);
     if (code == ORMSVELG_BREAKS_RULE) {
         printf("broken at ");
         show_wires(board_of(job).wires, place);

@@ -20,7 +20,8 @@
 
 /* A job sheet is of form one or of form two. Form two has a section more, after the rules: excuses, each a set of terms of
  * the wires. A combination at which all terms of some excuse hold is excused: tables may break a rule there, and no step
- * holds by it. Which form a call takes is in its name: those that end in _two take form two, the others form one. */
+ * holds by it. Which form a call takes is in its name: those that end in _two take form two, the others form one.
+ * The two movers name the form that they move a sheet to: ormsvelg_to_two takes form one, ormsvelg_to_one form two. */
 
 /* The limits of the sheets. No longer sheet is accepted, and of a longer one the first ORMSVELG_LONGEST_JOB + 1, in form
  * two ORMSVELG_LONGEST_JOB_TWO + 1, or ORMSVELG_LONGEST_ANSWER + 1 bytes decide the outcome. */
@@ -33,7 +34,7 @@
 #define ORMSVELG_LONGEST_ANSWER 8190
 
 /* Codes. Successes have sheet and place 0. The place of each refusal stands beside it. */
-#define ORMSVELG_ACCEPTED 0      /* reader: sheet accepted; writer: sheet written */
+#define ORMSVELG_ACCEPTED 0      /* reader: sheet accepted; writer, mover: sheet written */
 #define ORMSVELG_TABLES 20       /* solver, checker, widener: tables that fit */
 #define ORMSVELG_WALK 21         /* solver, checker: a walk that stands */
 /* Refusals of a job. The first fault on the sheet decides. The writer's 2, 3 and 4 have the description's section, 1 to
@@ -44,7 +45,7 @@
 #define ORMSVELG_TOO_HIGH 4      /* wire position not below n, or term not below 2n+4, in an excuse 2n: its offset */
 #define ORMSVELG_LEFT_OVER 5     /* bytes left over in a job: the first of them */
 #define ORMSVELG_NO_ROOM 6       /* answer buffer under ORMSVELG_LONGEST_ANSWER bytes, or sheet buffer shorter than the
-                                  * sheet to be written, sheet 0: 0 */
+                                  * sheet to be written or moved, sheet 0: 0 */
 /* Refusals of an answer, sheet 2: first 7, 8, 9 and 11 in reading order, then 10, or 12 and then 13. */
 #define ORMSVELG_WRONG_LENGTH 7  /* answer ends early, or has bytes over: its length, or the first of them */
 #define ORMSVELG_OTHER_KIND 8    /* count of neither permitted kind after the counts before it: its first byte */
@@ -56,6 +57,8 @@
 /* Refusals of the widener, with place 0. */
 #define ORMSVELG_ASKS_MORE 14    /* Q does not ask no more than P, sheet 3 */
 #define ORMSVELG_WALK_GIVEN 15   /* answer is a standing walk where tables are needed, sheet 2 */
+/* Refusal of the mover to form one, sheet 1. */
+#define ORMSVELG_EXCUSES_LOST 16 /* job has excuses, which form one cannot hold: their count's first byte */
 
 #ifdef __cplusplus
 extern "C" {
@@ -99,6 +102,16 @@ uint64_t ormsvelg_widen_two(const uint8_t *p, size_t p_len, const uint8_t *q, si
  * terms, or 4 for a term not below 2n+4. Last ORMSVELG_NO_ROOM. */
 uint64_t ormsvelg_write(const uint8_t *pins, size_t pins_len, uint32_t sees_a, uint32_t sees_b,
                         const uint32_t *rules, size_t rules_len, uint8_t *sheet, size_t sheet_len);
+
+/* Moves a job sheet from form one to form two, and from form two to form one: the same job, so that the solver gives the
+ * same tables, or a walk both times, and the checker the same outcomes. Form two has two bytes more, a count of no excuses;
+ * there and back gives the same bytes.
+ * ORMSVELG_ACCEPTED: the sheet is at the front of `moved`, where exactly its length is enough; bytes beyond it stay. Else
+ * the first of these, and every byte stays: a refusal of sheet 1 with one of the codes 1 to 5, as the reader of the form
+ * that is left gives it; to form one ORMSVELG_EXCUSES_LOST for any excuse, even one that is empty or can never hold;
+ * ORMSVELG_NO_ROOM. */
+uint64_t ormsvelg_to_two(const uint8_t *job, size_t job_len, uint8_t *moved, size_t moved_len);
+uint64_t ormsvelg_to_one(const uint8_t *job, size_t job_len, uint8_t *moved, size_t moved_len);
 
 #ifdef __cplusplus
 }
