@@ -1,7 +1,8 @@
 #!/usr/bin/env bash
 # host/test_command.sh PROGRAM: the command on the examples and on every kind of error, its exit status and its words.
-# What it should say of the examples and of texts is written out by hand. The errors are those of use, of files that can't
-# be read, and of sheets that can't be written; a target that was there must stay whole, and nothing may lie beside it.
+# What it should say of the examples, of texts and of archives is written out by hand. The errors are those of use, of files
+# that can't be read, and of sheets that can't be written; a target that was there must stay whole, and nothing may lie
+# beside it.
 # PROGRAM is the command, plain or sanitized; it runs through tools/x86.
 set -u
 
@@ -12,6 +13,11 @@ trap 'chmod -R u+rwx "$folder"; rm -rf "$folder"' EXIT
 input=/dev/null
 asks_more='job Q asks more than job P: other pins, a wire less, a rule that contains no rule of P, or an excuse of P'
 asks_more="$asks_more that contains no excuse of Q"
+ends='job ends where a byte is called for'
+lost='job has excuses, which a sheet of form 1 cannot hold'
+# What the speed wires' job holds, in either form.
+speed=('wires 2, on pins 2 3' 'A sees wires 0, rows 2' 'B sees wires 1, rows 2' 'rules 3' \
+    'rule 0: wire 0 is 0 or A is 1' 'rule 1: wire 1 is 0 or B is 1' 'rule 2: A is 0 or B is 0')
 . host/checks.sh
 
 ormsvelg() { tools/x86 run "$program" "$@"; }
@@ -55,11 +61,26 @@ makes() { # TEXT HEX..
     rm -f "$folder/made"
 }
 
+# An archive that is moved: the status, the counts in one word of lines, and on standard error a line for each file.
+archives() { # STATUS COUNTS LINES -- ARGS
+    local status=$1 counts=$2 lines=() said
+    shift 2
+    while [ "$1" != -- ]; do lines+=("$1"); shift; done
+    shift
+    said=$(ormsvelg move-all "$@" 2>"$folder/errors"; echo "status $?")
+    expect "move-all $*" "$said" "$(printf '%b\nstatus %s' "$counts" "$status")"
+    expect "move-all $*: each file" "$(cat "$folder/errors")" "$(printf '%s\n' "${lines[@]}")"
+}
+
+same() { # NAME FILE FILE
+    expect "$1: the bytes" "$(cmp "$2" "$3" && echo same)" same
+}
+
 # The folder for answers holds these names and no more.
 holds() { # NAME NAMES..
     local name=$1
     shift
-    expect "$name: files" "$(ls -A "$folder/out" | tr '\n' ' ')" "$(printf '%s ' "$@")"
+    expect "$name: files" "$(LC_ALL=C ls -A "$folder/out" | tr '\n' ' ')" "$(printf '%s ' "$@")"
 }
 
 examples() {
@@ -139,15 +160,13 @@ refusals() {
 
 # Job sheets of form two. --form may stand anywhere after the command's name.
 forms() {
-    local wires=('wires 2, on pins 2 3' 'A sees wires 0, rows 2' 'B sees wires 1, rows 2' 'rules 3' \
-        'rule 0: wire 0 is 0 or A is 1' 'rule 1: wire 1 is 0 or B is 1' 'rule 2: A is 0 or B is 0')
     local walk=('walk stands: no pair of tables fits' 'A row 1 is 1, so B row 1 is 0, by wires 0=1 1=1' \
         'B row 1 is 0, so A row 1 is 0, by wires 0=1 1=1' 'A row 1 is 0, so B row 1 is 0, by wires 0=1 1=1' \
         'B row 1 is 0, so A row 1 is 1, by wires 0=1 1=1')
-    says 0 accepted "${wires[@]}" -- read examples/speed.job
-    says 0 accepted "${wires[@]}" -- read --form 1 examples/speed.job
-    says 0 accepted "${wires[@]}" 'excuses 0' -- read --form 2 examples/speed.two.job
-    says 0 accepted "${wires[@]}" 'excuses 1' 'excuse 0: wire 0 is 1 and wire 1 is 1' \
+    says 0 accepted "${speed[@]}" -- read examples/speed.job
+    says 0 accepted "${speed[@]}" -- read --form 1 examples/speed.job
+    says 0 accepted "${speed[@]}" 'excuses 0' -- read --form 2 examples/speed.two.job
+    says 0 accepted "${speed[@]}" 'excuses 1' 'excuse 0: wire 0 is 1 and wire 1 is 1' \
         -- read examples/speed-excused.two.job --form 2
     says 0 "${walk[@]}" -- check examples/speed.job examples/speed.walk.answer
     says 0 "${walk[@]}" -- check --form 2 examples/speed.two.job examples/speed.walk.answer
@@ -211,8 +230,16 @@ sizes() {
     expect 'the longest job' "$(ormsvelg read "$folder/longest" | sed -n '1p;2p;$=')" \
         $'accepted\nwires 12, on pins 0 1 2 3 4 5 6 7 8 9 10 11\n261'
     expect 'the longest job' "$(ormsvelg solve "$folder/longest" | sed -n '1p;$=')" $'tables fit\n3'
+    expect 'the longest job moved' "$(ormsvelg move --to 2 "$folder/longest" -o "$folder/moved" | sed -n '1p;$p')" \
+        $'sheet of 7459 bytes\nexcuses 0'
+    same 'the longest job moved' <(cat "$folder/longest"; bytes 00 00) "$folder/moved"
+    expect 'the longest job moved back' "$(ormsvelg move --to 1 "$folder/moved" -o "$folder/back" | head -n 1)" \
+        'sheet of 7457 bytes'
+    same 'the longest job moved back' "$folder/longest" "$folder/back"
+    rm "$folder/moved" "$folder/back"
     cp "$folder/longest" "$folder/longest_two"
     bytes 00 >>"$folder/longest"
+    says 1 'refused: code 5 on sheet 1 at byte 7457: bytes left over' -- move --to 2 "$folder/longest"
     says 1 'refused: code 5 on sheet 1 at byte 7457: bytes left over' -- read "$folder/longest"
     head -c 3000000 /dev/zero >>"$folder/longest"
     says 1 'refused: code 5 on sheet 1 at byte 7457: bytes left over' -- solve "$folder/longest"
@@ -240,7 +267,9 @@ sizes_two() {
         $'accepted\nexcuses 64\n326'
     expect 'the longest job of form two' "$(ormsvelg solve --form 2 "$folder/longest_two" | sed -n '1p;$=')" $'tables fit\n3'
     says 1 'refused: code 5 on sheet 1 at byte 7457: bytes left over' -- read "$folder/longest_two"
+    says 1 "refused: code 16 on sheet 1 at byte 7457: $lost" -- move --to 1 "$folder/longest_two"
     bytes 00 >>"$folder/longest_two"
+    says 1 'refused: code 5 on sheet 1 at byte 9059: bytes left over' -- move --to 1 "$folder/longest_two"
     says 1 'refused: code 5 on sheet 1 at byte 9059: bytes left over' -- read --form 2 "$folder/longest_two"
     head -c 3000000 /dev/zero >>"$folder/longest_two"
     says 1 'refused: code 5 on sheet 1 at byte 9059: bytes left over' -- solve --form 2 "$folder/longest_two"
@@ -367,7 +396,7 @@ long_texts() {
 }
 
 uses() {
-    expect '--help' "$(ormsvelg --help | grep -c '^  ormsvelg ')" 6
+    expect '--help' "$(ormsvelg --help | grep -c '^  ormsvelg ')" 8
     expect '--version' "$(ormsvelg --version | grep -cxE 'ormsvelg [0-9]+\.[0-9]+\.[0-9]+')" 1
     fails 'a command is missing' --
     fails 'unknown command: solv' -- solv examples/J2.job
@@ -402,6 +431,29 @@ uses() {
     fails 'a file is missing' -- check --form 2 examples/J2.job
     expect 'the use of check' "$(ormsvelg check 2>&1 | tail -n 1)" 'use: ormsvelg check [--form 2] JOB ANSWER'
     expect 'form 1 for write' "$(ormsvelg write --form 1 examples/J2.text | head -n 1)" 'sheet of 14 bytes'
+    fails '--to has no meaning for read' -- read --to 2 examples/J2.job
+    fails '--to has no meaning for write' -- write --to 1 examples/J2.text
+    fails '--form has no meaning for move' -- move --form 1 --to 2 examples/J2.job
+    fails '--form has no meaning for move-all' -- move-all --form 2 examples "$folder/none"
+    fails '--to is missing' -- move examples/J2.job
+    fails '--to is missing' -- move -o "$folder/none" examples/J2.job
+    expect 'the use of move' "$(ormsvelg move examples/J2.job 2>&1 | tail -n 1)" 'use: ormsvelg move --to 2|1 IN [-o OUT]'
+    fails '--to wants 1 or 2' -- move examples/J2.job --to
+    fails '--to wants 1 or 2, not 3' -- move --to 3 examples/J2.job
+    fails '--to wants 1 or 2, not examples/J2.job' -- move --to examples/J2.job
+    fails '--to wants 1 or 2, not 0' -- move-all --to 0 examples "$folder/none"
+    fails '--to is given twice' -- move --to 2 --to 2 examples/J2.job
+    fails 'unknown option: --to=2' -- move --to=2 examples/J2.job
+    fails 'a file is missing' -- move
+    fails 'a file is missing' -- move --to 2 -o "$folder/none"
+    fails 'one word too many: examples/J1.job' -- move --to 2 examples/J2.job examples/J1.job
+    fails 'a folder is missing' -- move-all
+    fails 'a folder is missing' -- move-all --to 1 examples
+    expect 'the use of move-all' "$(ormsvelg move-all 2>&1 | tail -n 1)" 'use: ormsvelg move-all [--to 2|1] DIR-IN DIR-OUT'
+    fails "one word too many: $folder/none" -- move-all examples "$folder/none" "$folder/none"
+    fails 'move-all wants folders, not -' -- move-all - "$folder/none"
+    fails 'move-all wants folders, not -' -- move-all examples -
+    fails '-o has no meaning for move-all' -- move-all examples "$folder/none" -o "$folder/none"
     fails 'only one sheet can be -, standard input' -- check - -
     fails 'only one sheet can be -, standard input' -- widen - examples/J6.job -
     expect 'no file' "$([ -e "$folder/none" ] || echo none)" none
@@ -510,18 +562,241 @@ unwritable() {
     expect 'the target' "$(cmp "$folder/out/kept" examples/J5.answer && echo same)" same
     expect 'the job' "$(cmp "$folder/out/job" examples/J2.job && echo same)" same
     holds 'answers not written' job kept
+    chmod 755 "$folder/out"
+    rm -rf "$folder/out"
+}
+
+# Sheets moved there and back. --to may stand anywhere after the command's name.
+moves() {
+    local job
+    mkdir "$folder/moved"
+    says 0 'sheet of 20 bytes' "${speed[@]}" 'excuses 0' -- move --to 2 examples/speed.job
+    says 0 'sheet of 18 bytes' "${speed[@]}" -- move examples/speed.two.job --to 1
+    says 0 'sheet of 20 bytes' "${speed[@]}" 'excuses 0' -- move -o "$folder/moved/two" examples/speed.job --to 2
+    same 'moved to form two' "$folder/moved/two" examples/speed.two.job
+    says 0 'sheet of 18 bytes' "${speed[@]}" -- move --to 1 "$folder/moved/two" -o "$folder/moved/one"
+    same 'moved to form one' "$folder/moved/one" examples/speed.job
+    input=examples/speed.job
+    says 0 'sheet of 20 bytes' "${speed[@]}" 'excuses 0' -- move --to 2 -
+    input=/dev/null
+    expect 'a pipe' "$(ormsvelg move --to 2 - -o /dev/stderr 2>&1 >/dev/null <examples/J2.job | ormsvelg solve --form 2 - | tr '\n' ' ')" \
+        'tables fit A 00 B 11 '
+    for job in examples/*.job; do
+        case $job in *.two.job) continue ;; esac
+        ormsvelg move --to 2 "$job" -o "$folder/moved/two" >/dev/null && ormsvelg move --to 1 "$folder/moved/two" -o "$folder/moved/one" >/dev/null
+        expect "$job there and back" $? 0
+        same "$job there" <(cat "$job"; bytes 00 00) "$folder/moved/two"
+        same "$job and back" "$folder/moved/one" "$job"
+    done
+    rm -r "$folder/moved"
+}
+
+# Sheets that are not moved: the target stays, or is not made.
+not_moved() {
+    local excuse
+    mkdir "$folder/out"
+    cp examples/J5.job "$folder/out/kept"
+    says 1 "refused: code 16 on sheet 1 at byte 18: $lost" -- move --to 1 examples/speed-excused.two.job -o "$folder/out/kept"
+    for excuse in '00' '02 00 01' '01 03'; do
+        # shellcheck disable=SC2086
+        { cat examples/speed.job; bytes 01 00 $excuse; } >"$folder/excused"
+        says 1 "refused: code 16 on sheet 1 at byte 18: $lost" -- move --to 1 "$folder/excused" -o "$folder/out/new"
+    done
+    bytes 00 >>"$folder/excused"
+    says 1 'refused: code 5 on sheet 1 at byte 22: bytes left over' -- move --to 1 "$folder/excused"
+    says 1 'refused: code 5 on sheet 1 at byte 18: bytes left over' -- move --to 2 examples/speed.two.job -o "$folder/out/new"
+    says 1 "refused: code 1 on sheet 1 at byte 18: $ends" -- move --to 1 examples/speed.job -o "$folder/out/new"
+    says 1 "refused: code 1 on sheet 1 at byte 0: $ends" -- move --to 2 /dev/null
+    says 1 'refused: code 2 on sheet 1 at byte 18: count above its limit' -- move --to 1 "$folder/many"
+    says 1 'refused: code 3 on sheet 1 at byte 22: entry not above the one before' -- move --to 1 "$folder/rising"
+    says 1 'refused: code 4 on sheet 1 at byte 21: wire position or term not below its limit' -- move --to 1 "$folder/high"
+    says 1 'refused: code 5 on sheet 1 at byte 5: bytes left over' -- move --to 2 /dev/zero
+    says 1 'refused: code 5 on sheet 1 at byte 7: bytes left over' -- move --to 1 /dev/zero
+    fails "cannot read $folder/none: No such file or directory" -- move --to 2 "$folder/none" -o "$folder/out/new"
+    fails 'cannot read examples: Is a directory' -- move --to 1 examples
+    fails 'cannot write /dev/full: No space left on device' -- move --to 2 examples/J2.job -o /dev/full
+    fails "-o names a file that is read: $folder/out/kept" -- move --to 2 "$folder/out/kept" -o "$folder/out/kept"
+    expect 'a disk that fills up' "$(ulimit -f 0; ormsvelg move --to 2 examples/J2.job -o "$folder/out/kept" 2>&1; echo "status $?")" \
+        "ormsvelg: cannot write $folder/out/kept: File too large"$'\nstatus 2'
+    same 'the target' "$folder/out/kept" examples/J5.job
+    holds 'sheets not moved' kept
+    rm -r "$folder/out"
+}
+
+# An archive of sheets that are moved, refused or can't be read, and names that are left out; then run again.
+archive() {
+    local in=$folder/in out=$folder/out
+    mkdir -p "$in/inner"
+    cp examples/J1.job "$in/-dash"
+    cp examples/speed.job "$in/Speed"
+    cp examples/J2.job "$in/a sheet"
+    cp examples/J2.job "$in/.hidden"
+    cp examples/J3.job "$in/inner/J3"
+    cp examples/J4.job "$in/z"
+    cp examples/speed-excused.two.job "$in/excused"
+    cp examples/speed.two.job "$in/two"
+    : >"$in/empty"
+    ln -s z "$in/link"
+    ln -s nowhere "$in/gone"
+    ln -s inner "$in/to inner"
+    mkfifo "$in/pipe"
+    archives 2 'moved 5\nrefused 1 1\nrefused 5 2\nfailed 1' '1/9 -dash: moved' '2/9 Speed: moved' '3/9 a sheet: moved' \
+        "4/9 empty: refused: code 1 on sheet 1 at byte 0: $ends" \
+        '5/9 excused: refused: code 5 on sheet 1 at byte 18: bytes left over' \
+        '6/9 gone: cannot read: No such file or directory' '7/9 link: moved' \
+        '8/9 two: refused: code 5 on sheet 1 at byte 18: bytes left over' '9/9 z: moved' -- "$in" "$out"
+    holds 'an archive' -dash Speed 'a sheet' link z
+    same 'an archive' "$out/Speed" examples/speed.two.job
+    same 'a link is a file in its own right' "$out/link" "$out/z"
+    expect 'a link is a file in its own right' "$(stat -c '%F %h' "$out/link")" 'regular file 1'
+    rm "$in/gone"
+    rm "$out/a sheet"
+    archives 1 'moved 1\nthere 4\nrefused 1 1\nrefused 5 2' '1/8 -dash: there already' '2/8 Speed: there already' \
+        '3/8 a sheet: moved' "4/8 empty: refused: code 1 on sheet 1 at byte 0: $ends" \
+        '5/8 excused: refused: code 5 on sheet 1 at byte 18: bytes left over' '6/8 link: there already' \
+        '7/8 two: refused: code 5 on sheet 1 at byte 18: bytes left over' '8/8 z: there already' -- --to 2 "$in" "$out"
+    rm "$in/empty" "$in/excused" "$in/two" "$in/a sheet" "$in/link"
+    archives 0 'moved 0\nthere 3' '1/3 -dash: there already' '2/3 Speed: there already' '3/3 z: there already' -- "$in" "$out/"
+    archives 0 'moved 3' '1/3 -dash: moved' '2/3 Speed: moved' '3/3 z: moved' -- "$in" "$in/inner"
+    archives 0 'moved 0\nthere 3' '1/3 -dash: there already' '2/3 Speed: there already' '3/3 z: there already' -- "$in/" "$in/inner"
+    holds 'an archive that was run again' -dash Speed 'a sheet' link z
+    rm -r "$in" "$out"
+}
+
+# What stands in the target folder stays, whatever it is.
+taken() {
+    local in=$folder/in out=$folder/out name
+    mkdir "$in" "$out" "$out/folder"
+    for name in dangling folder link longer other pipe same shorter; do cp examples/speed.job "$in/$name"; done
+    ln -s nowhere "$out/dangling"
+    cp examples/speed.two.job "$out/.target"
+    ln -s .target "$out/link"
+    { cat examples/speed.two.job; bytes 00; } >"$out/longer"
+    cp examples/J1.job "$out/other"
+    mkfifo "$out/pipe"
+    cp examples/speed.two.job "$out/same"
+    cp examples/speed.job "$out/shorter"
+    archives 2 'moved 0\nthere 2\nfailed 6' '1/8 dangling: another file stands there' '2/8 folder: another file stands there' \
+        '3/8 link: there already' '4/8 longer: another file stands there' '5/8 other: another file stands there' \
+        '6/8 pipe: another file stands there' '7/8 same: there already' '8/8 shorter: another file stands there' \
+        -- "$in" "$out"
+    holds 'taken names' .target dangling folder link longer other pipe same shorter
+    expect 'taken names' "$(readlink "$out/dangling" "$out/link"; stat -c %F "$out/folder" "$out/pipe" | tr '\n' ' ')" \
+        $'nowhere\n.target\ndirectory fifo '
+    expect 'taken names: the longer file' "$(wc -c <"$out/longer")" 21
+    same 'taken names: the other file' "$out/other" examples/J1.job
+    same 'taken names: the shorter file' "$out/shorter" examples/speed.job
+    rm -r "$in" "$out"
+}
+
+# There and back: all examples of form one, and sheets of form two, one of them with an excuse.
+archive_back() {
+    local in=$folder/in out=$folder/out job
+    mkdir "$in"
+    for job in examples/*.job; do
+        case $job in *.two.job) ;; *) cp "$job" "$in" ;; esac
+    done
+    expect 'an archive there' "$(ormsvelg move-all "$in" "$out" 2>/dev/null)" 'moved 11'
+    expect 'an archive and back' "$(ormsvelg move-all --to 1 "$out" "$folder/back" 2>/dev/null)" 'moved 11'
+    expect 'an archive there and back' "$(diff -r "$in" "$folder/back" && ls "$folder/back" | wc -l)" 11
+    rm -r "$in" "$out" "$folder/back"
+    mkdir "$in"
+    cp examples/speed.two.job examples/speed-excused.two.job examples/J1.job "$in"
+    archives 1 'moved 1\nrefused 1 1\nrefused 16 1' "1/3 J1.job: refused: code 1 on sheet 1 at byte 5: $ends" \
+        "2/3 speed-excused.two.job: refused: code 16 on sheet 1 at byte 18: $lost" '3/3 speed.two.job: moved' \
+        -- "$in" --to 1 "$out"
+    same 'an archive to form one' "$out/speed.two.job" examples/speed.job
+    holds 'an archive to form one' speed.two.job
+    rm -r "$in" "$out"
+}
+
+# Folders that can't be, and a disk that fills up. A folder is made only for an archive that is there.
+bad_archives() {
+    local in=$folder/in out=$folder/out
+    mkdir "$in"
+    archives 0 'moved 0' -- "$in" "$out"
+    expect 'an empty archive' "$(stat -c %F "$out"; ls -A "$out")" directory
+    rmdir "$out"
+    cp examples/J1.job "$in/a"
+    cp examples/J2.job "$in/b"
+    ln -s in "$folder/link"
+    fails "DIR-OUT is DIR-IN: $in" -- move-all "$in" "$in"
+    fails "DIR-OUT is DIR-IN: $in/../in/" -- move-all "$in" "$in/../in/"
+    fails "DIR-OUT is DIR-IN: $folder/link" -- move-all "$in" "$folder/link"
+    fails "cannot read $folder/none: No such file or directory" -- move-all "$folder/none" "$out"
+    fails "cannot read $in/a: Not a directory" -- move-all "$in/a" "$out"
+    fails 'cannot read : No such file or directory' -- move-all '' "$out"
+    expect 'no folder made' "$([ -e "$out" ] || echo none)" none
+    fails "cannot make folder $in/a: File exists" -- move-all "$in" "$in/a"
+    fails "cannot make folder $out/deeper: No such file or directory" -- move-all "$in" "$out/deeper"
+    same 'the archive' "$in/a" examples/J1.job
+    expect 'a disk that fills up' "$(ulimit -f 0; ormsvelg move-all "$in" "$out" 2>&1; echo "status $?")" \
+        $'1/2 a: cannot write: File too large\n2/2 b: cannot write: File too large\nmoved 0\nfailed 2\nstatus 2'
+    holds 'a disk that fills up'
+    head -c 3000000 /dev/zero >"$in/a"
+    archives 1 'moved 1\nrefused 5 1' '1/2 a: refused: code 5 on sheet 1 at byte 5: bytes left over' '2/2 b: moved' -- "$in" "$out"
+    if [ "$(id -u)" -ne 0 ]; then
+        rm "$out/b"
+        chmod 000 "$in/a"
+        chmod 555 "$out"
+        archives 2 'moved 0\nfailed 2' '1/2 a: cannot read: Permission denied' '2/2 b: cannot write: Permission denied' -- "$in" "$out"
+        chmod 755 "$out"
+    fi
+    rm -rf "$in" "$out" "$folder/link"
+}
+
+# A link call that fails stands for a file system without links, and for a name that is taken while the sheet is written:
+# then it makes the file first. It comes before the C library's own, which only a plain program on x86-64 allows.
+without_links() {
+    local in=$folder/in out=$folder/out code
+    case $(uname -m)-$program in *-sanitized | aarch64-*) return 0 ;; esac
+    mkdir "$in"
+    cp examples/speed.job "$in/a"
+    cat >"$folder/link.c" <<'END'
+#include <errno.h>
+#include <stdio.h>
+#include <stdlib.h>
+
+int link(const char *from, const char *to)
+{
+    FILE *made = getenv("TAKEN") == NULL || from == NULL ? NULL : fopen(to, "wb");
+    if (made != NULL)
+        fclose(made);
+    errno = atoi(getenv("WHY"));
+    return -1;
+}
+END
+    cc -shared -fPIC -o "$folder/link.so" "$folder/link.c"
+    for code in 1 31 95; do # EPERM, EMLINK, EOPNOTSUPP
+        expect "link fails with $code" "$(WHY=$code LD_PRELOAD=$folder/link.so "$full" move-all "$in" "$out" 2>&1)" \
+            $'1/1 a: moved\nmoved 1'
+        same "link fails with $code" "$out/a" examples/speed.two.job
+        holds "link fails with $code" a
+        rm "$out/a"
+    done
+    for code in 1 17; do # EPERM, EEXIST
+        expect "taken, and link fails with $code" "$(TAKEN=1 WHY=$code LD_PRELOAD=$folder/link.so "$full" move-all "$in" "$out" 2>&1)" \
+            $'1/1 a: another file stands there\nmoved 0\nfailed 1'
+        expect "taken, and link fails with $code" "$(wc -c <"$out/a")" 0
+        holds "taken, and link fails with $code" a
+        rm "$out/a"
+    done
+    rm -r "$in" "$out"
 }
 
 # Standard output on a full disk, or closed: an error, for short words and for long ones.
 full_output() {
     local words
     for words in '--help' '--version' 'read examples/J2.job' 'solve examples/J3.job' 'write examples/J2.text' \
-        'read --form 2 examples/speed-excused.two.job' \
+        'read --form 2 examples/speed-excused.two.job' 'move --to 2 examples/J2.job' \
         "read $folder/many_rules"; do
         # shellcheck disable=SC2086
         expect "$words to a full disk" "$(ormsvelg $words 2>&1 >/dev/full; echo "status $?")" \
             $'ormsvelg: cannot write standard output: No space left on device\nstatus 2'
     done
+    mkdir "$folder/in"
+    expect 'counts to a full disk' "$(ormsvelg move-all "$folder/in" "$folder/out" 2>&1 >/dev/full; echo "status $?")" \
+        $'ormsvelg: cannot write standard output: No space left on device\nstatus 2'
     expect 'closed' "$(ormsvelg read examples/J2.job 2>&1 >&-; echo "status $?")" \
         $'ormsvelg: cannot write standard output: Bad file descriptor\nstatus 2'
 }
@@ -543,6 +818,13 @@ standard_input
 unreadable
 writes
 unwritable
+moves
+not_moved
+archive
+taken
+archive_back
+bad_archives
+without_links
 { bytes 00 00 00 00 01; for rule in {1..256}; do bytes 04 00 01 02 03; done; } >"$folder/many_rules"
 full_output
 finish command
