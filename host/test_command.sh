@@ -672,7 +672,7 @@ taken() {
     cp examples/speed.two.job "$out/.target"
     ln -s .target "$out/link"
     { cat examples/speed.two.job; bytes 00; } >"$out/longer"
-    cp examples/J1.job "$out/other"
+    { cat examples/speed.job; bytes 00 01; } >"$out/other"
     mkfifo "$out/pipe"
     cp examples/speed.two.job "$out/same"
     cp examples/speed.job "$out/shorter"
@@ -684,8 +684,11 @@ taken() {
     expect 'taken names' "$(readlink "$out/dangling" "$out/link"; stat -c %F "$out/folder" "$out/pipe" | tr '\n' ' ')" \
         $'nowhere\n.target\ndirectory fifo '
     expect 'taken names: the longer file' "$(wc -c <"$out/longer")" 21
-    same 'taken names: the other file' "$out/other" examples/J1.job
+    same 'taken names: the other file' "$out/other" <(cat examples/speed.job; bytes 00 01)
     same 'taken names: the shorter file' "$out/shorter" examples/speed.job
+    rm "$in"/{dangling,folder,longer,other,pipe,shorter}
+    expect 'nothing to write on a full disk' "$(ulimit -f 0; ormsvelg move-all "$in" "$out" 2>&1; echo "status $?")" \
+        $'1/2 link: there already\n2/2 same: there already\nmoved 0\nthere 2\nstatus 0'
     rm -r "$in" "$out"
 }
 
@@ -732,7 +735,7 @@ bad_archives() {
     same 'the archive' "$in/a" examples/J1.job
     expect 'a disk that fills up' "$(ulimit -f 0; ormsvelg move-all "$in" "$out" 2>&1; echo "status $?")" \
         $'1/2 a: cannot write: File too large\n2/2 b: cannot write: File too large\nmoved 0\nfailed 2\nstatus 2'
-    holds 'a disk that fills up'
+    expect 'a disk that fills up: files' "$(ls -A "$out")" ''
     head -c 3000000 /dev/zero >"$in/a"
     archives 1 'moved 1\nrefused 5 1' '1/2 a: refused: code 5 on sheet 1 at byte 5: bytes left over' '2/2 b: moved' -- "$in" "$out"
     if [ "$(id -u)" -ne 0 ]; then
@@ -743,6 +746,33 @@ bad_archives() {
         chmod 755 "$out"
     fi
     rm -rf "$in" "$out" "$folder/link"
+}
+
+# A run that is cut off leaves whole sheets and nothing else, and is run again. Its lines go to a pipe that is not read any
+# more, and are too many for it, so that the run can't have come to its end.
+cut_off() {
+    local in=$folder/in out=$folder/out long line there
+    long=$(printf '%0200d' 0)
+    mkdir "$in"
+    tee "$in/$long"{100..699} <examples/speed.job >/dev/null
+    mkfifo "$folder/lines"
+    tools/x86 run "$program" move-all "$in" "$out" >/dev/null 2>"$folder/lines" &
+    exec 3<"$folder/lines"
+    read -r line <&3
+    kill $!
+    wait $! 2>/dev/null
+    expect 'a run that is cut off' "$? $line" "143 1/600 ${long}100: moved"
+    exec 3<&-
+    there=$(ls -A "$out" | wc -l)
+    expect 'a run that is cut off, again' "$(ormsvelg move-all "$in" "$out" 2>/dev/null; echo "status $?")" \
+        "moved $((600 - there))"$'\n'"there $there"$'\nstatus 0'
+    expect 'a run that is cut off, again: files' "$(ls -A "$out" | wc -l)" 600
+    same 'a run that is cut off, again' <(cat "$out"/*) <(yes examples/speed.two.job | head -n 600 | xargs cat)
+    rm -r "$in" "$out"
+}
+
+moves_by() { # WHY=N [TAKEN=1]
+    env "$@" LD_PRELOAD="$folder/link.so" "$full" move-all "$folder/in" "$folder/out" 2>&1
 }
 
 # A link call that fails stands for a file system without links, and for a name that is taken while the sheet is written:
@@ -759,28 +789,31 @@ without_links() {
 
 int link(const char *from, const char *to)
 {
-    FILE *made = getenv("TAKEN") == NULL || from == NULL ? NULL : fopen(to, "wb");
+    FILE *made = from == NULL || getenv("TAKEN") == NULL ? NULL : fopen(to, "wb");
     if (made != NULL)
         fclose(made);
     errno = atoi(getenv("WHY"));
     return -1;
 }
 END
-    cc -shared -fPIC -o "$folder/link.so" "$folder/link.c"
+    tools/x86 cc -shared -fPIC -o "$folder/link.so" "$folder/link.c"
     for code in 1 31 95; do # EPERM, EMLINK, EOPNOTSUPP
-        expect "link fails with $code" "$(WHY=$code LD_PRELOAD=$folder/link.so "$full" move-all "$in" "$out" 2>&1)" \
-            $'1/1 a: moved\nmoved 1'
+        expect "link fails with $code" "$(moves_by WHY=$code)" $'1/1 a: moved\nmoved 1'
         same "link fails with $code" "$out/a" examples/speed.two.job
+        expect "link fails with $code, again" "$(moves_by WHY=$code)" $'1/1 a: there already\nmoved 0\nthere 1'
         holds "link fails with $code" a
         rm "$out/a"
     done
     for code in 1 17; do # EPERM, EEXIST
-        expect "taken, and link fails with $code" "$(TAKEN=1 WHY=$code LD_PRELOAD=$folder/link.so "$full" move-all "$in" "$out" 2>&1)" \
+        expect "taken, and link fails with $code" "$(moves_by WHY=$code TAKEN=1)" \
             $'1/1 a: another file stands there\nmoved 0\nfailed 1'
         expect "taken, and link fails with $code" "$(wc -c <"$out/a")" 0
         holds "taken, and link fails with $code" a
         rm "$out/a"
     done
+    ln -s nowhere "$out/a"
+    expect 'a link to nowhere, and no links' "$(moves_by WHY=1)" $'1/1 a: another file stands there\nmoved 0\nfailed 1'
+    expect 'a link to nowhere, and no links' "$(readlink "$out/a")" nowhere
     rm -r "$in" "$out"
 }
 
@@ -824,6 +857,7 @@ archive
 taken
 archive_back
 bad_archives
+cut_off
 without_links
 { bytes 00 00 00 00 01; for rule in {1..256}; do bytes 04 00 01 02 03; done; } >"$folder/many_rules"
 full_output
