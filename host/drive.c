@@ -19,12 +19,14 @@ extern void _exit(int status) __attribute__((noreturn));
 typedef outcome reading(const byte *job, size job_len);
 typedef outcome checking(const byte *job, size job_len, const byte *answer, size answer_len);
 typedef outcome solving(const byte *job, size job_len, byte *answer, size answer_len);
+typedef solving moving; /* with a job sheet of the other form for an answer */
 typedef outcome widening(const byte *p, size p_len, const byte *q, size q_len, const byte *answer, size answer_len,
                          byte *out, size out_len);
 
 extern reading ormsvelg_read, ormsvelg_read_two;
 extern checking ormsvelg_check, ormsvelg_check_two;
 extern solving ormsvelg_solve, ormsvelg_solve_two;
+extern moving ormsvelg_to_two, ormsvelg_to_one;
 extern widening ormsvelg_widen, ormsvelg_widen_two;
 extern outcome ormsvelg_write(const byte *pins, size pins_len, mask sees_a, mask sees_b, const mask *rules, size rules_len,
                               byte *sheet, size sheet_len);
@@ -267,6 +269,8 @@ static void serve(byte op)
     case 'w': serve_widen(ormsvelg_widen); break;
     case 'W': serve_widen(ormsvelg_widen_two); break;
     case 'j': serve_sheet(); break;
+    case 'm': serve_solve(ormsvelg_to_two); break;
+    case 'M': serve_solve(ormsvelg_to_one); break;
     default: fail(BAD_REQUEST, "drive: a request with an unknown op\n");
     }
 }

@@ -19,6 +19,7 @@ pub struct Case {
     pub known: Option<Known>,
 }
 
+#[derive(Clone)]
 pub enum Known {
     Outcome(Outcome),
     /// Success with this code, writing exactly this sheet.
@@ -56,6 +57,14 @@ pub struct Response {
     pub after: Vec<Vec<u8>>,
 }
 
+impl Response {
+    /// What the call wrote by its own account, in its first slice and no longer than that.
+    pub fn written(&self) -> &[u8] {
+        let length = (self.outcome.written as usize).min(self.after[0].len());
+        &self.after[0][..length]
+    }
+}
+
 /// The response that this program comes to.
 pub struct Judgement {
     pub expected: Response,
@@ -73,6 +82,14 @@ impl Judgement {
     pub fn writing(outcome: Outcome, sheet: &[u8], before: &[u8]) -> Judgement {
         let after = [sheet, &before[sheet.len()..]].concat();
         Judgement { expected: Response { outcome, after: vec![after] }, fault: None }
+    }
+
+    /// Success with this code and the sheet that must be written, or a refusal that changes no byte.
+    pub fn sheet(code: u8, sheet: Result<Vec<u8>, Outcome>, before: &[u8]) -> Judgement {
+        match sheet {
+            Ok(sheet) => Judgement::writing(Outcome::wrote(code, sheet.len()), &sheet, before),
+            Err(outcome) => Judgement::writing(outcome, &[], before),
+        }
     }
 }
 

@@ -4,17 +4,17 @@
 // The writer and what it writes are of form one.
 // It leans on make, read, description, distort, room and write.
 
-use crate::case::{hex, Call, Case, Judgement, Known, Response, USUAL_COUNT};
+use crate::case::{Call, Case, Judgement, Known, Response, USUAL_COUNT};
 use crate::description::{mask, Description, PINS, RULES, SEES};
 use crate::distort::distort;
 use crate::job::{term_limit, Form, JobSheet, MOST_RULES, MOST_WIRES};
 use crate::jobs::READER;
-use crate::make::{longest_job, random_job, tied_job, to_bytes};
-use crate::named::ALL;
+use crate::make::{random_job, tied_job, to_bytes};
+use crate::named::right_sheets;
 use crate::outcome::{Outcome, Refusal, ACCEPTED};
 use crate::random::Random;
 use crate::read::read_job;
-use crate::room::{enough_room, too_little_room, MOST_ROOM};
+use crate::room::{enough_room, no_room, rooms_for, too_little_room};
 use crate::write::write;
 
 pub const WRITER: Call = Call {
@@ -43,13 +43,8 @@ pub const WRITTEN: Call = Call {
 
 fn judge(_: Form, slices: &[Vec<u8>], got: &Response) -> Judgement {
     let (described, before) = (Description::from_slices(slices), &slices[3]);
-    match write(&described, before.len()) {
-        Ok(sheet) => {
-            let judgement = Judgement::writing(Outcome::wrote(ACCEPTED, sheet.len()), &sheet, before);
-            Judgement { fault: misread(&described, got), ..judgement }
-        }
-        Err(outcome) => Judgement::writing(outcome, &[], before),
-    }
+    let judgement = Judgement::sheet(ACCEPTED, write(&described, before.len()), before);
+    Judgement { fault: misread(&described, got), ..judgement }
 }
 
 /// What is wrong if the sheet that the command wrote is not read as what was described.
@@ -57,8 +52,7 @@ fn misread(described: &Description, got: &Response) -> Option<String> {
     if got.outcome.code != ACCEPTED as u64 {
         return None;
     }
-    let written = (got.outcome.written as usize).min(got.after[0].len());
-    match read_job(Form::One, &got.after[0][..written]) {
+    match read_job(Form::One, got.written()) {
         Ok(job) if Description::of(&job) == *described => None,
         Ok(_) => Some("the sheet is read as another description".into()),
         Err(refusal) => Some(format!("the sheet is refused with {} at {}", refusal.code, refusal.place)),
@@ -75,22 +69,12 @@ fn case(described: &Description, room: usize, known: Option<Known>, random: &mut
     Case { slices: [&described.slices()[..], &[random.bytes(room)]].concat(), known }
 }
 
-fn no_room() -> Known {
-    Known::Outcome(Outcome::no_room())
-}
-
 fn named_descriptions(form: Form, random: &mut Random) -> Vec<Case> {
-    let mut sheets: Vec<Vec<u8>> = ALL.iter().map(|sheet| hex(sheet)).collect();
-    sheets.push(hex(&format!("00 00 00 00 01{}", " 00".repeat(MOST_RULES))));
-    sheets.push(JobSheet::of(&longest_job(form, random)).bytes);
     let mut cases = Vec::new();
-    for sheet in sheets {
-        let (described, length) = (described_by(&sheet), sheet.len());
-        for room in [length, length + 1, MOST_ROOM] {
-            cases.push(case(&described, room, Some(Known::Wrote(ACCEPTED, sheet.clone())), random));
-        }
-        for room in [length - 1, 0] {
-            cases.push(case(&described, room, Some(no_room()), random));
+    for sheet in right_sheets(random) {
+        let described = described_by(&sheet);
+        for (room, known) in rooms_for(&sheet) {
+            cases.push(case(&described, room, Some(known), random));
         }
     }
     for (room, named) in [(form.longest(), named_refusals()), (0, named_orders())] {

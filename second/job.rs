@@ -23,6 +23,13 @@ impl Form {
             Form::Two => 9059,
         }
     }
+
+    pub fn other(self) -> Form {
+        match self {
+            Form::One => Form::Two,
+            Form::Two => Form::One,
+        }
+    }
 }
 
 /// Terms below this number exist on a board of so many wires.

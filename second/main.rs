@@ -1,7 +1,7 @@
 // The second program: makes cases, judges each by the papers alone, and compares with the proved library.
 // It is written apart from the library, so that an error in both at the same place is unlikely.
 // Usage: compare [--seed N] [--count N] -- COMMAND ARGS..   The command speaks the protocol of host/drive.c.
-// It leans on jobs, answers, tasks, widenings and descriptions for the cases and on pipe for the command.
+// It leans on jobs, answers, tasks, widenings, descriptions and moves for the cases and on pipe for the command.
 
 mod answer;
 mod answers;
@@ -18,6 +18,8 @@ mod given;
 mod job;
 mod jobs;
 mod make;
+mod moves;
+mod moving;
 mod named;
 mod named_widenings;
 mod outcome;
@@ -58,6 +60,10 @@ const CALLS: &[Call] = &[
     widenings::WIDENER.in_form_two(),
     descriptions::WRITER,
     descriptions::WRITTEN,
+    moves::TO_TWO,
+    moves::TO_ONE,
+    moves::BACK,
+    moves::BACK.in_form_two(),
 ];
 
 const USAGE: &str = "usage: compare [--seed N] [--count N] -- COMMAND ARGS..";

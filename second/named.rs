@@ -1,8 +1,10 @@
-// The jobs that document 01 names, as job sheets of form one in hexadecimal, and excuses to put behind them.
-// It leans on case and job.
+// The jobs that the papers name, as job sheets of form one in hexadecimal, and excuses to put behind them.
+// It leans on case, job and make.
 
 use crate::case::hex;
-use crate::job::Form;
+use crate::job::{Form, JobSheet, MOST_RULES};
+use crate::make::longest_job;
+use crate::random::Random;
 
 pub const J1: &str = "00 00 00 00 00";
 pub const J2: &str = "01 04 01 00 01 00 02 00 02 02 04 02 03 05";
@@ -18,7 +20,7 @@ pub const J6_WIDENED: &str = "01 04 01 00 01 00 02 00 02 00 05 02 01 04";
 pub const EQUAL_AS_WIRES: &str = "02 04 07 01 00 01 01 08 00 04 00 02 04 07 04 00 02 05 06 04 01 03 04 07 \
                                   04 01 03 05 06 04 00 03 04 06 04 00 03 05 07 04 01 02 04 06 04 01 02 05 07";
 
-pub const ALL: [&str; 9] = [J1, J2, J3, J4, J5, J6, J7, J6_WIDENED, EQUAL_AS_WIRES];
+pub const ALL: [&str; 10] = [J1, J2, J3, J4, J5, J6, J7, J6_WIDENED, EQUAL_AS_WIRES, SPEED_WIRES];
 
 /// Sections of excuses, for any job: none, and the empty one, which excuses everything.
 pub const NONE: &str = "00 00";
@@ -33,6 +35,14 @@ pub const FIRST_IS_BOTH: &str = "01 00 02 00 01";
 pub const SPEED_WIRES: &str = "02 02 03 01 00 01 01 03 00 02 01 04 02 03 06 02 05 07";
 /// The wires are never both 1.
 pub const NOT_BOTH_HIGH: &str = "01 00 02 00 02";
+
+/// All of them, one with as many rules as there may be, and the longest sheet, in form one.
+pub fn right_sheets(random: &mut Random) -> Vec<Vec<u8>> {
+    let mut sheets: Vec<Vec<u8>> = ALL.iter().map(|sheet| hex(sheet)).collect();
+    sheets.push(hex(&format!("00 00 00 00 01{}", " 00".repeat(MOST_RULES))));
+    sheets.push(JobSheet::of(&longest_job(Form::One, random)).bytes);
+    sheets
+}
 
 /// The sheet in this form. In form two an empty section of excuses is the last.
 pub fn in_form(form: Form, sheet: &str) -> Vec<u8> {

@@ -8,7 +8,7 @@ use crate::job::Form;
 use crate::named::{in_form, with_excuses, EQUAL_AS_WIRES, J1, J2, J3, J4, J5, J6, J6_WIDENED, J7};
 use crate::named::{EMPTY, FIRST_IS_0, FIRST_IS_1, FIRST_IS_BOTH, FIRST_IS_EITHER, NONE};
 use crate::outcome::{Outcome, Refusal, ANSWER, JOB, JOB_Q, TABLES};
-use crate::room::{MOST_ROOM, ROOM};
+use crate::room::{no_room, MOST_ROOM, ROOM};
 
 /// EQUAL_AS_WIRES with both cells seeing both wires, and its first two rules alone.
 const EQUAL_WIDENED: &str = "02 04 07 02 00 01 02 00 01 02 00 04 00 02 04 07 04 00 02 05 06";
@@ -39,10 +39,6 @@ fn walk(entries: &[(usize, usize)]) -> Vec<u8> {
 
 fn refused(code: u8, place: usize, sheet: u64) -> Known {
     Known::Outcome(Outcome::refused(Refusal { code, place }, sheet))
-}
-
-fn no_room() -> Known {
-    Known::Outcome(Outcome::no_room())
 }
 
 fn more_asked() -> Known {

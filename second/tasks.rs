@@ -16,7 +16,7 @@ use crate::named::{EMPTY, FIRST_IS_0, FIRST_IS_1, FIRST_IS_BOTH, FIRST_IS_EITHER
 use crate::outcome::{Outcome, Refusal, JOB, TABLES, WALK};
 use crate::random::Random;
 use crate::read::read_job;
-use crate::room::{enough_room, too_little_room, MOST_ROOM, ROOM};
+use crate::room::{enough_room, no_room, too_little_room, MOST_ROOM, ROOM};
 use crate::shapes::{job_near_line, largest_near_line};
 use crate::solve::solve;
 use crate::ties::{chain_job, ring_job};
@@ -107,10 +107,6 @@ fn named_excused(random: &mut Random) -> Vec<Case> {
 
 fn tables(a: &[u8], b: &[u8]) -> Known {
     Known::Wrote(TABLES, Answer::Tables([a.to_vec(), b.to_vec()]).sheet())
-}
-
-fn no_room() -> Known {
-    Known::Outcome(Outcome::no_room())
 }
 
 /// The cases of form one whose jobs are accepted, in this form, with what form one makes of them.
@@ -217,9 +213,8 @@ fn judge(form: Form, slices: &[Vec<u8>], got: &Response) -> Judgement {
 
 /// Any walk is right that stands and is short enough.
 fn judge_walk(board: &Board, before: &[u8], got: &Response) -> Judgement {
-    let written = (got.outcome.written as usize).min(before.len());
-    let sheet = &got.after[0][..written];
-    let most = 4 * board.all_rows() - 2;
+    let sheet = got.written();
+    let (written, most) = (sheet.len(), 4 * board.all_rows() - 2);
     let fault = match check(board, sheet) {
         Ok(WALK) if (written - 6) / 4 <= most => None,
         Ok(WALK) => Some(format!("the walk has {} entries, and {most} are the most", (written - 6) / 4)),

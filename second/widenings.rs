@@ -38,10 +38,7 @@ pub const WIDENER: Call = Call {
 
 fn judge(form: Form, slices: &[Vec<u8>], _: &Response) -> Judgement {
     let before = &slices[3];
-    match widen(form, &slices[0], &slices[1], &slices[2], before.len()) {
-        Ok(sheet) => Judgement::writing(Outcome::wrote(TABLES, sheet.len()), &sheet, before),
-        Err(outcome) => Judgement::writing(outcome, &[], before),
-    }
+    Judgement::sheet(TABLES, widen(form, &slices[0], &slices[1], &slices[2], before.len()), before)
 }
 
 fn named_cases(form: Form, random: &mut Random) -> Vec<Case> {
