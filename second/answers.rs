@@ -1,17 +1,18 @@
 // The cases of the checker: the answers that the papers name, then random boards with answers right and wrong.
 // Each random board is expanded once, so that right answers are at hand, and then gets several answers.
 // Boards with excuses also get the answers that would be right without them.
-// It leans on make, ties, damage, given, spoil and check.
+// It leans on make, ties, damage, given, spoil, moving and check.
 
 use crate::answer::{Answer, Walk, LONGEST_WALK};
 use crate::board::{Board, Claim, Combination};
-use crate::case::{hex, Call, Case, Judgement, Known, USUAL_COUNT};
+use crate::case::{hex, Call, Case, Judgement, Known, LONGEST_SLICE, USUAL_COUNT};
 use crate::check::check_outcome;
 use crate::damage::damage;
 use crate::expand::Expansion;
 use crate::given::Given;
 use crate::job::{Form, JobSheet, MOST_RULES, MOST_WIRES};
 use crate::make::{fitting_job, job_of_size, random_job, tied_job};
+use crate::moving::move_sheet;
 use crate::named::{in_form, with_excuses, EQUAL_AS_WIRES, J1, J2, J3, J4, J5, J6, J6_WIDENED, J7};
 use crate::named::{EMPTY, FIRST_IS_0, FIRST_IS_1, FIRST_IS_BOTH, FIRST_IS_EITHER, NONE, NOT_BOTH_HIGH, SPEED_WIRES};
 use crate::outcome::{Outcome, Refusal, ANSWER, JOB};
@@ -33,6 +34,17 @@ pub const CHECKER: Call = Call {
     named: named_answers,
     make: random_answers,
     judge: |form, slices, _| Judgement::outcome(check_outcome(form, &slices[0], &slices[1])),
+};
+
+/// The checker in form two, on form one's cases whose job sheets can be moved, moved: with one seed those that it has
+/// just checked in form one. The outcome must be the same.
+pub const WITHOUT_EXCUSES: Call = Call {
+    name: "check without excuses",
+    count: 40_000,
+    codes: &[7, 8, 9, 10, 11, 12, 13, 20, 21],
+    named: |_, random| without_excuses(named_answers(Form::One, random)),
+    make: |_, random| without_excuses(random_answers(Form::One, random)),
+    ..CHECKER
 };
 
 /// The answers that the paper names, and walks at both sides of the longest.
@@ -87,6 +99,16 @@ fn named_excused() -> Vec<Case> {
         (SPEED_WIRES, NONE, tables(&[0, 1], &[0, 1]), refused(10, 3)),
     ];
     cases.map(|(job, excuses, answer, known)| case(with_excuses(job, excuses), answer.sheet(), Some(known))).into()
+}
+
+/// The cases of form one, moved, with what form one makes of them.
+fn without_excuses(cases: Vec<Case>) -> Vec<Case> {
+    let moved = |given: Case| {
+        let (job, answer) = (&given.slices[0], &given.slices[1]);
+        let sheet = move_sheet(Form::One, job, LONGEST_SLICE).ok()?;
+        Some(case(sheet, answer.clone(), Some(check_outcome(Form::One, job, answer))))
+    };
+    cases.into_iter().filter_map(moved).collect()
 }
 
 fn tables(a: &[u8], b: &[u8]) -> Answer {

@@ -53,6 +53,7 @@ const CALLS: &[Call] = &[
     jobs::EXCUSES.in_form_two(),
     answers::CHECKER,
     answers::CHECKER.in_form_two(),
+    answers::WITHOUT_EXCUSES.in_form_two(),
     tasks::SOLVER,
     tasks::SOLVER.in_form_two(),
     tasks::WITHOUT_EXCUSES.in_form_two(),

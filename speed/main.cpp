@@ -23,12 +23,14 @@ const char *const names[SIDES] = {"library", "plain", "best"};
 
 using sheet = std::vector<uint8_t>;
 
-/* What a call is lent, and the code that it must give; to the writer, what the job describes and room for its sheet. */
+/* What a call is lent, and the code that it must give; to the writer, what the job describes and room for its sheet; to
+ * the mover, the job in the other form, which it must write, and room for it. */
 struct lent {
     sheet job, wide, answer;
     uint32_t code;
     ::job described = {};
     size_t room = 0;
+    sheet moved = {};
 };
 
 typedef uint64_t call(const lent &by, uint8_t *out);
@@ -60,6 +62,11 @@ template <auto &write> uint64_t writes(const lent &by, uint8_t *out)
     return write(of.pins, of.wires, of.seen[0], of.seen[1], of.rules, of.rule_count, out, by.room);
 }
 
+template <auto &move> uint64_t moves(const lent &by, uint8_t *out)
+{
+    return move(by.job.data(), by.job.size(), out, by.room);
+}
+
 /* Whether what was written is an answer for the last job lent. */
 template <form of> bool answers(const lent &by, const uint8_t *out, size_t written)
 {
@@ -67,10 +74,10 @@ template <form of> bool answers(const lent &by, const uint8_t *out, size_t writt
     return judge_answer(of, job.data(), job.size(), out, written);
 }
 
-/* Whether what was written is the job. */
-bool is_job(const lent &by, const uint8_t *out, size_t written)
+/* Whether what was written is this sheet of those lent: the job, or the moved one. */
+template <sheet lent::*wanted> bool is(const lent &by, const uint8_t *out, size_t written)
 {
-    return written == by.job.size() && !memcmp(out, by.job.data(), written);
+    return written == (by.*wanted).size() && !memcmp(out, (by.*wanted).data(), written);
 }
 
 /* The same work on each side; a side that has nothing of its own is null. And the judge of what is written, if anything. */
@@ -84,13 +91,15 @@ const work reading = {"read", {reads<ormsvelg_read>, reads<plain_read>, nullptr}
 const work checking = {"check", {checks<ormsvelg_check>, checks<plain_check>, nullptr}, nullptr};
 const work solving = {"solve", {solves<ormsvelg_solve>, solves<plain_solve>, solves<best_solve>}, answers<form::one>};
 const work widening = {"widen", {widens<ormsvelg_widen>, widens<plain_widen>, nullptr}, answers<form::one>};
-const work writing = {"write", {writes<ormsvelg_write>, writes<plain_write>, nullptr}, is_job};
+const work writing = {"write", {writes<ormsvelg_write>, writes<plain_write>, nullptr}, is<&lent::job>};
+const work moving_to_two = {"move", {moves<ormsvelg_to_two>, moves<plain_to_two>, nullptr}, is<&lent::moved>};
 
 /* The same with job sheets of form two. */
 const work reading_two = {"read", {reads<ormsvelg_read_two>, reads<plain_read_two>, nullptr}, nullptr};
 const work checking_two = {"check", {checks<ormsvelg_check_two>, checks<plain_check_two>, nullptr}, nullptr};
 const work solving_two = {"solve", {solves<ormsvelg_solve_two>, solves<plain_solve_two>, nullptr}, answers<form::two>};
 const work widening_two = {"widen", {widens<ormsvelg_widen_two>, widens<plain_widen_two>, nullptr}, answers<form::two>};
+const work moving_to_one = {"move", {moves<ormsvelg_to_one>, moves<plain_to_one>, nullptr}, is<&lent::moved>};
 
 /* A line of the table: what is timed, and what is only tried, for the same outcome. */
 struct line {
@@ -294,6 +303,35 @@ line excused_widen_line()
     return made;
 }
 
+/* ---- from form to form: jobs of the lines above without excuses */
+
+const sheet no_excuses = {0, 0}, empty_excuse = {1, 0, 0};
+
+/* With room for just the sheet in its other form. A byte less is too little, and a job cut short is refused. */
+line move_line(const work &of, const char *name, const sheet &job, const sheet &moved)
+{
+    lent exact = {job, {}, {}, ORMSVELG_ACCEPTED, {}, moved.size(), moved};
+    lent tight = exact, cut = exact;
+    tight.code = ORMSVELG_NO_ROOM;
+    tight.room--;
+    cut.code = ORMSVELG_ENDS;
+    cut.job.pop_back();
+    return {of, name, {exact}, {tight, cut}};
+}
+
+line move_to_two_line(const char *name, const sheet &job)
+{
+    return move_line(moving_to_two, name, job, joined(job, no_excuses));
+}
+
+/* An excuse would be lost, even one without terms. */
+line move_to_one_line(const char *name, const sheet &job)
+{
+    line made = move_line(moving_to_one, name, joined(job, no_excuses), job);
+    made.tried.push_back({joined(job, empty_excuse), {}, {}, ORMSVELG_EXCUSES_LOST, {}, job.size()});
+    return made;
+}
+
 std::vector<line> lines()
 {
     sheet longest(ORMSVELG_LONGEST_JOB), ordinary(ORMSVELG_LONGEST_JOB);
@@ -318,6 +356,10 @@ std::vector<line> lines()
     for (int large : {2, 3})
         made.push_back(excused_solve_line(solved[large]));
     made.push_back(excused_widen_line());
+    made.push_back(move_to_two_line("to form two: longest sheet, 7457 bytes", longest));
+    made.push_back(move_to_two_line("to form two: ordinary sheet, 291 bytes", ordinary));
+    made.push_back(move_to_one_line("to form one: longest sheet, 7459 bytes", longest));
+    made.push_back(move_to_one_line("to form one: ordinary sheet, 293 bytes", ordinary));
     return made;
 }
 

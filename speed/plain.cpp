@@ -10,6 +10,7 @@
  *     widener   the tables are checked, each rule is looked for among P's and each excuse among Q's, each row is copied
  *               from the row it widens
  *     writer    the description is judged and its sheet measured, then each mask is written from its lowest bit up
+ *     mover     the sheet is read in its form, then copied, with an excuse count of 0 behind it or without the one it has
  */
 #include "plain.h"
 
@@ -27,7 +28,7 @@ constexpr unsigned MOST_WIRES = 12, MOST_SEEN = 8, MOST_RULES = 256, MOST_EXCUSE
 constexpr unsigned COMBINATIONS = 4096, ROWS = 512, CLAIMS = 1024, UNSETTLED = 2;
 
 enum { ACCEPTED, ENDS, TOO_MANY, NOT_RISING, TOO_HIGH, LEFT_OVER };
-enum { WRONG_LENGTH = 7, OTHER_KIND = 8, NOT_A_BIT = 9, BREAKS_RULE = 10, ASKS_MORE = 14 };
+enum { WRONG_LENGTH = 7, OTHER_KIND = 8, NOT_A_BIT = 9, BREAKS_RULE = 10, ASKS_MORE = 14, EXCUSES_LOST = 16 };
 
 inline uint64_t refusal(uint64_t code, uint64_t sheet, size_t place)
 {
@@ -132,6 +133,7 @@ template <form of> inline uint64_t read_job(const uint8_t *sheet, size_t length,
     if (outcome == ACCEPTED)
         outcome = read_sets(from, MOST_RULES, 2 * job.wires + 4, job.rules, job.rule_count);
     job.excuse_count = 0;
+    job.excuses_at = from.place;
     if (of == form::two && outcome == ACCEPTED)
         outcome = read_sets(from, MOST_EXCUSES, 2 * job.wires, job.excuses, job.excuse_count);
     if (outcome == ACCEPTED && from.place < length)
@@ -634,4 +636,30 @@ uint64_t plain_write(const uint8_t *pins, size_t pins_len, uint32_t sees_a, uint
     if (sheet_len < length)
         return NO_ROOM;
     return succeeded(ACCEPTED, write_job(sheet, bytes(pins, pins_len), sees_a, sees_b, masks(rules, rules_len)));
+}
+
+uint64_t plain_to_two(const uint8_t *sheet, size_t sheet_len, uint8_t *moved, size_t moved_len)
+{
+    job read;
+    uint64_t refused = read_job<form::one>(sheet, sheet_len, read);
+    if (refused != 0)
+        return refused;
+    if (moved_len < sheet_len + 2)
+        return NO_ROOM;
+    std::copy_n(sheet, sheet_len, moved);
+    return succeeded(ACCEPTED, put_two(moved, sheet_len, 0));
+}
+
+uint64_t plain_to_one(const uint8_t *sheet, size_t sheet_len, uint8_t *moved, size_t moved_len)
+{
+    job read;
+    uint64_t refused = read_job<form::two>(sheet, sheet_len, read);
+    if (refused != 0)
+        return refused;
+    if (read.excuse_count != 0)
+        return refused_job(EXCUSES_LOST, read.excuses_at);
+    if (moved_len < read.excuses_at)
+        return NO_ROOM;
+    std::copy_n(sheet, read.excuses_at, moved);
+    return succeeded(ACCEPTED, read.excuses_at);
 }

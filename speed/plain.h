@@ -15,6 +15,7 @@ struct job {
     uint32_t rules[256];
     unsigned excuse_count;
     uint32_t excuses[64];
+    size_t excuses_at; /* the place of their count; in form one the sheet's length */
 };
 
 /* The form of a job sheet. In form one a job has no excuses. */
@@ -38,5 +39,9 @@ uint64_t plain_widen_two(const uint8_t *p, size_t p_len, const uint8_t *q, size_
 /* For a description: the pins, what A and B see as masks, each rule as a mask. */
 uint64_t plain_write(const uint8_t *pins, size_t pins_len, uint32_t sees_a, uint32_t sees_b, const uint32_t *rules,
                      size_t rules_len, uint8_t *sheet, size_t sheet_len);
+
+/* From form one to form two, and back. */
+uint64_t plain_to_two(const uint8_t *sheet, size_t sheet_len, uint8_t *moved, size_t moved_len);
+uint64_t plain_to_one(const uint8_t *sheet, size_t sheet_len, uint8_t *moved, size_t moved_len);
 
 #endif
