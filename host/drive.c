@@ -227,6 +227,7 @@ static void serve_check(checking *call)
     respond(call(bytes_of(0), length_of(0), bytes_of(1), length_of(1)), 2, 0);
 }
 
+/* Solves a job or moves its sheet. */
 static void serve_solve(solving *call)
 {
     take_slices(2);

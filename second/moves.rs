@@ -1,5 +1,5 @@
-// The cases of the mover: the papers' jobs, those with excuses, each refusal, then random jobs and the reader's own cases.
-// What must come of a right sheet is known from its bytes: two more or two fewer. The definition goes by the job instead.
+// The cases of the mover: the papers' jobs, each refusal, then random jobs of every family, and the reader's own cases.
+// What must come of a right sheet is known from its bytes, two more or two fewer; the definition goes by the job.
 // What the command writes is moved back here, and the command is asked to move it back too.
 // The form of a call is the one that its sheets come in.
 // It leans on jobs, make, ties, shapes, named, room and moving.
@@ -44,8 +44,9 @@ pub const TO_ONE: Call = Call {
 /// written. The sheets from before must come back.
 pub const BACK: Call = Call {
     name: "move back",
-    count: 40_000,
+    count: 20_000,
     codes: &[0],
+    foremost: &[0],
     named: |form, random| moved_back(form, named_moves(form.other(), random)),
     make: |form, random| moved_back(form, random_moves(form.other(), random)),
     ..TO_TWO

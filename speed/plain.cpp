@@ -10,7 +10,7 @@
  *     widener   the tables are checked, each rule is looked for among P's and each excuse among Q's, each row is copied
  *               from the row it widens
  *     writer    the description is judged and its sheet measured, then each mask is written from its lowest bit up
- *     mover     the sheet is read in its form, then copied, with an excuse count of 0 behind it or without the one it has
+ *     mover     the sheet is read in its form, then copied, with an excuse count of 0 behind it or without it
  */
 #include "plain.h"
 
