@@ -3,7 +3,7 @@
 --     taken     from what the reader of jobs told and stored
 --     taken-checked, refused-checked      the checker's outcome, where the job is accepted, and where it is refused
 -- Assumes nothing.
-use mathlib.Core.Path.{_≡_, refl, sym, ap, ap₂, _∙_}
+use mathlib.Core.Path.{_≡_, refl, ap, ap₂, _∙_}
 use mathlib.Core.List.{List}
 use Prim.Native.Nat.{ℕ, _+_, _≤_}
 use native.Mathlib.Omega.{arith}
@@ -15,7 +15,7 @@ use Rattle.sheet.specs.declared.Form.{Form}
 use Rattle.sheet.specs.declared.JobHead.{JobHead}
 use Rattle.sheet.specs.declared.JobRead.{JobRead}
 use Rattle.sheet.specs.declared.JobRead.the-variants.{Accepted}
-use Rattle.sheet.specs.Job.{Job, Verdict, accepted, rejected}
+use Rattle.sheet.specs.Job.{Job, accepted, rejected}
 use Rattle.sheet.specs.JobSheet.{readJob}
 use Rattle.sheet.specs.JobFound.{jobHead, asJob, keptMasks}
 use Rattle.sheet.proofs.Jobs.{job-accepted}

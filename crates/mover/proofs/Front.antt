@@ -6,7 +6,7 @@
 use mathlib.Core.Path.{_≡_, refl, sym, ap, _∙_}
 use mathlib.Core.Bool.{Bool, true, false}
 use mathlib.Core.List.{List, [], _∷_, _++_}
-use Prim.Native.Nat.{ℕ, suc, _+_, _*_, _≤_, _<_}
+use Prim.Native.Nat.{ℕ, suc, _+_, _*_, _≤_}
 use native.Mathlib.Numerals.{add-one}
 use native.Mathlib.Omega.{arith}
 use borrow.Author.Tests.{ltb-false}
@@ -18,16 +18,14 @@ use Rattle.steps.specs.declared.Refusal.the-variants.{LeftOver}
 use Rattle.steps.specs.Step.{Step, got, refused, next, pick}
 use Rattle.steps.specs.Bytes.{byte, word, wordCount, end}
 use Rattle.steps.specs.Outcome.{placeOf}
-use Rattle.steps.proofs.Entries.{next-inv, got-inj, place-same, byte-is, byte-next}
-use Rattle.steps.proofs.Goes.{goes-word-count}
+use Rattle.steps.proofs.Entries.{next-inv, got-inj, byte-is, byte-next}
 use Rattle.sheet.specs.declared.Form.the-variants.{One, Two}
 use Rattle.sheet.specs.Job.{Job, Head, Verdict, accepted, rejected}
-use Rattle.sheet.specs.JobSheet.{termsOf, wireTermsOf, excuseLimit, rules, excuses, head, job, readJob, verdictOf}
+use Rattle.sheet.specs.JobSheet.{termsOf, excuseLimit, rules, excuses, head, job, readJob, verdictOf}
 use Rattle.sheet.proofs.Heads.{word-count-is}
-use Rattle.sheet.proofs.Jobs.{rules-length}
-use Rattle.sheet.proofs.Laws.{Sections, sections}
+use Rattle.sheet.proofs.Laws.{sections}
 use Rattle.sheet.proofs.Length.{jobOf}
-use Rattle.sheet.proofs.Forms.{goes-rules, goes-head, word-count-next}
+use Rattle.sheet.proofs.Forms.{goes-rules, goes-head, fifth-is, fifth-inside, none-last}
 use Rattle.answer.specs.Written.{two}
 use Rattle.mover.specs.Moved.{front, toldBy, excusesAt}
 
@@ -82,38 +80,22 @@ word-zero s at m h =
     (omega (arith, byte-is s at (i .0) (i .1) (i .2)), omega arith)
 
 module _ (t : List ℕ) (j : Job) (ok : readJob Two t ≡ accepted j) where
-  abbrev x : Sections Two t j
-  x = sections Two t j ok
-
-  at-is : excusesAt t ≡ x .at-excuses
+  at-is : excusesAt t ≡ sections Two t j ok .at-excuses
   unfolding excusesAt front
-  at-is = rw (x .head-is, x .rules-are)
+  at-is = let x = sections Two t j ok in rw (x .head-is, x .rules-are)
 
   pub count-there : wordCount excuseLimit t (excusesAt t) ≡ got (length (j .excuses)) (excusesAt t + 2)
-  unfolding excuses
-  count-there =
-      let w = next-inv (wordCount excuseLimit t (x .at-excuses)) _ (j .excuses) (x .last) (x .excuses-are) in
-      let many = rules-length (w .0) (wireTermsOf (x .top .wires)) t (w .1) (j .excuses) (x .last) (w .3) in
-      rw (at-is, many, ← word-count-next excuseLimit t (x .at-excuses) (w .0) (w .1) (w .2)) (w .2)
+  count-there = rw at-is (fifth-is t j ok .0)
 
   pub inside : excusesAt t + 2 ≤ length t
-  inside =
-      let first = goes-head .inside t 0 (x .top) (x .at-rules) (x .head-is) (omega arith) in
-      let there = goes-rules (x .top .count) (termsOf (x .top .wires)) .inside t (x .at-rules) (j .rules) (x .at-excuses) (x .rules-are) first in
-      goes-word-count excuseLimit .inside t (excusesAt t) _ _ count-there (omega (arith, at-is))
+  inside = rw at-is (fifth-inside t j ok)
 
   module _ (none : j .excuses ≡ []) where
     pub none-long : length t ≡ excusesAt t + 2
-    unfolding excuses rules
-    none-long =
-        let w = next-inv (wordCount excuseLimit t (x .at-excuses)) _ (j .excuses) (x .last) (x .excuses-are) in
-        let many = rules-length (w .0) (wireTermsOf (x .top .wires)) t (w .1) (j .excuses) (x .last) (w .3) in
-        let zero-read : w .0 ≡ 0 = sym many ∙ ap length none in
-        let there : got [] (w .1) ≡ got (j .excuses) (x .last) = rw zero-read at (w .3) in
-        omega (arith, inside, at-is, x .ends, place-same there, word-count-next excuseLimit t (x .at-excuses) (w .0) (w .1) (w .2))
+    none-long = rw at-is (none-last t j ok none)
 
-    pub none-last : drop (excusesAt t) t ≡ two 0
-    none-last =
+    rest-is : drop (excusesAt t) t ≡ two 0
+    rest-is =
         let zero-read : wordCount excuseLimit t (excusesAt t) ≡ got 0 (excusesAt t + 2) = count-there ∙ ap (λ (es : List ℕ). got (length es) (excusesAt t + 2)) none in
         let bytes = word-zero t (excusesAt t) _ (word-count-is excuseLimit t (excusesAt t) 0 _ zero-read) in
         let over : length t ≤ suc (excusesAt t + 1) = omega (arith, none-long) in
@@ -123,4 +105,4 @@ module _ (t : List ℕ) (j : Job) (ok : readJob Two t ≡ accepted j) where
         ∙ (λ i. 0 ∷ bytes .1 i ∷ drop-of-length-le t over i)
 
     pub none-after : t ≡ take (excusesAt t) t ++ two 0
-    none-after = sym (take-append-drop (excusesAt t) t) ∙ ap (λ (l : List ℕ). take (excusesAt t) t ++ l) none-last
+    none-after = sym (take-append-drop (excusesAt t) t) ∙ ap (λ (l : List ℕ). take (excusesAt t) t ++ l) rest-is

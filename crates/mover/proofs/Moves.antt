@@ -11,7 +11,7 @@ use native.Mathlib.Omega.{arith}
 use borrow.Author.Tests.{le-leb, leb-true}
 use lib.Dec.{leb}
 use lib.ListN.{length, take, length-append}
-use lib.Seq.{take-at, take-append-seam}
+use lib.Seq.{take-append-seam}
 use Rattle.steps.specs.Step.{pick}
 use Rattle.steps.specs.Outcome.{refusal, refusing, writing}
 use Rattle.steps.proofs.Codes.{code-bounds}
@@ -22,7 +22,7 @@ use Rattle.sheet.specs.JobSheet.{readJob}
 use Rattle.sheet.proofs.Laws.{none-excused}
 use Rattle.sheet.proofs.Forms.{form-two, form-one}
 use Rattle.answer.specs.Written.{two}
-use Rattle.mover.specs.Moved.{Moved, moved, unmoved, excusesAt, toTwo, without, toOne, other, put, ending, movedTo, moving}
+use Rattle.mover.specs.Moved.{Moved, moved, excusesAt, toTwo, without, toOne, other, put, ending, movedTo, moving}
 use Rattle.mover.proofs.Front.{none-long, none-after}
 
 pub record Moves (f : Form) (s t : List ℕ) : Type 0 where

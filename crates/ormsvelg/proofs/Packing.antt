@@ -25,13 +25,13 @@ use Rattle.sheet.specs.declared.Form.{Form}
 use Rattle.sheet.specs.declared.Form.the-variants.{One, Two}
 use Rattle.sheet.specs.Job.{Job, Verdict, accepted, rejected}
 use Rattle.steps.specs.Step.{pick}
-use Rattle.steps.specs.Outcome.{codeOf, answerCodeOf, placeOf, success, refusal, refusedJob, Ending, refusing, writing}
+use Rattle.steps.specs.Outcome.{codeOf, answerCodeOf, placeOf, success, refusal, Ending, refusing, writing}
 use Rattle.steps.proofs.Codes.{code-bounds}
-use Rattle.sheet.specs.JobSheet.{readJob, longest, outcomeOf, readOutcome}
+use Rattle.sheet.specs.JobSheet.{readJob, outcomeOf, readOutcome}
 use Rattle.sheet.proofs.Length.{place-small, accepted-short}
 use Rattle.sheet.proofs.Forms.{form-two}
 use Rattle.sheet.proofs.Laws.{job-bounds, seen-bounds}
-use Rattle.answer.specs.Answer.{Entry, Answer, tables, walk, AnswerVerdict, answered}
+use Rattle.answer.specs.Answer.{Entry, tables, walk, AnswerVerdict, answered}
 use Rattle.answer.specs.Answer.{rejected as unanswered}
 use Rattle.answer.specs.AnswerSheet.{readAnswer}
 use Rattle.answer.specs.AnswerSheet.{longest as longestAnswer}

@@ -1,4 +1,5 @@
 -- A sheet of form one, and the same sheet with no excuses in form two, are one job.
+--     fifth-is, fifth-inside, none-last      where the excuse count of a sheet of form two stands, and that it is the end where there are no excuses
 --     form-two       what form one accepts, form two accepts as the same job, with two bytes more
 --     form-one       and back, where the job has no excuses: else those bytes may be two empty ones
 -- Assumes nothing.
@@ -8,16 +9,16 @@ use Prim.Native.Nat.{ℕ, zero, suc, _+_, _≤_}
 use native.Mathlib.Omega.{arith}
 use lib.ListN.{length, length-append, List·getD-append}
 use Rattle.steps.specs.Step.{got}
-use Rattle.steps.specs.Bytes.{count, wordCount, entries, end}
+use Rattle.steps.specs.Bytes.{count, wordCount, entries}
 use Rattle.steps.proofs.Entries.{next-inv, got-inj, place-same}
-use Rattle.steps.proofs.Near.{Alike, word-next, end-there, end-read}
+use Rattle.steps.proofs.Near.{Alike, word-next, end-read}
 use Rattle.steps.proofs.Goes.{Goes, goes-then, goes-give, goes-count, goes-word-count, goes-entries}
 use Rattle.sheet.specs.declared.Form.the-variants.{One, Two}
-use Rattle.sheet.specs.Job.{Job, Head, accepted}
+use Rattle.sheet.specs.Job.{Job, accepted}
 use Rattle.sheet.specs.JobSheet.{wireLimit, seenLimit, pinLimit, ruleLimit, excuseLimit, termsOf, wireTermsOf, maskOf, mask, countedMask, rules, excuses, head, job, readJob}
 use Rattle.sheet.proofs.Heads.{word-count-is}
 use Rattle.sheet.proofs.Jobs.{rules-length}
-use Rattle.sheet.proofs.Laws.{accepted-inv}
+use Rattle.sheet.proofs.Laws.{Sections, sections}
 use Rattle.sheet.proofs.Length.{jobOf}
 use Rattle.sheet.proofs.Longest.{low-count}
 
@@ -44,8 +45,34 @@ goes-head =
 
 -- ---- the two forms
 
-pub word-count-next : (most : ℕ) (s : List ℕ) (at v n : ℕ) → wordCount most s at ≡ got v n → n ≡ at + 2
+word-count-next : (most : ℕ) (s : List ℕ) (at v n : ℕ) → wordCount most s at ≡ got v n → n ≡ at + 2
 word-count-next most s at v n h = word-next s at v n (word-count-is most s at v n h)
+
+no-rules : (rs : List ℕ) (terms : ℕ) (s : List ℕ) (at n : ℕ) → rs ≡ [] → rules (length rs) terms s at ≡ got rs n → at ≡ n
+unfolding rules
+no-rules rs terms s at n none h = let there : got [] at ≡ got [] n = rw none at h in place-same there
+
+-- a sheet of form two that is accepted
+module _ (t : List ℕ) (j : Job) (ok : readJob Two t ≡ accepted j) where
+  abbrev x : Sections Two t j
+  x = sections Two t j ok
+
+  -- the excuse count stands after the rules, and the excuses after it
+  pub fifth-is : (wordCount excuseLimit t (x .at-excuses) ≡ got (length (j .excuses)) (x .at-excuses + 2)) × (rules (length (j .excuses)) (wireTermsOf (x .top .wires)) t (x .at-excuses + 2) ≡ got (j .excuses) (x .last))
+  unfolding excuses
+  fifth-is =
+      let w = next-inv (wordCount excuseLimit t (x .at-excuses)) _ (j .excuses) (x .last) (x .excuses-are) in
+      let many = rules-length (w .0) (wireTermsOf (x .top .wires)) t (w .1) (j .excuses) (x .last) (w .3) in
+      rw (many, ← word-count-next excuseLimit t (x .at-excuses) (w .0) (w .1) (w .2)) (w .2, w .3)
+
+  pub fifth-inside : x .at-excuses + 2 ≤ length t
+  fifth-inside =
+      let first = goes-head .inside t 0 (x .top) (x .at-rules) (x .head-is) (omega arith) in
+      let there = goes-rules (x .top .count) (termsOf (x .top .wires)) .inside t (x .at-rules) (j .rules) (x .at-excuses) (x .rules-are) first in
+      goes-word-count excuseLimit .inside t (x .at-excuses) _ _ (fifth-is .0) there
+
+  pub none-last : j .excuses ≡ [] → length t ≡ x .at-excuses + 2
+  none-last none = omega (arith, x .ends, fifth-inside, no-rules (j .excuses) (wireTermsOf (x .top .wires)) t (x .at-excuses + 2) (x .last) none (fifth-is .1))
 
 module _ (s : List ℕ) where
   -- the sheet in form two
@@ -72,40 +99,25 @@ module _ (s : List ℕ) where
   pub form-two : (j : Job) → readJob One s ≡ accepted j → readJob Two (s ++ (0 ∷ 0 ∷ [])) ≡ accepted j
   unfolding excuses readJob job
   form-two j ok =
-      let a = accepted-inv (job One s 0) j ok in
-      let i = next-inv (head s 0) _ j (a .0) (a .1) in
-      let steps = goes-rules (i .0 .count) (termsOf (i .0 .wires)) in
-      let r = next-inv (rules (i .0 .count) (termsOf (i .0 .wires)) s (i .1)) _ j (a .0) (i .3) in
-      let e = next-inv (end s (r .1)) _ j (a .0) (r .3) in
-      let in-head : i .1 ≤ length s = goes-head .inside s 0 (i .0) (i .1) (i .2) (omega arith) in
-      let in-rules : r .1 ≤ length s = steps .inside s (i .1) (r .0) (r .1) (r .2) in-head in
-      let ends : r .1 ≡ length s = omega (arith, end-there s (r .1) (e .0) (e .1) (e .2)) in
-      let first = goes-head .same s more 0 (i .0) (i .1) (more-alike (i .1) in-head) (i .2) in
-      let then = steps .same s more (i .1) (r .0) (r .1) (more-alike (r .1) in-rules) (r .2) in
+      let x = sections One s j ok in
+      let steps = goes-rules (x .top .count) (termsOf (x .top .wires)) in
+      let in-head : x .at-rules ≤ length s = goes-head .inside s 0 (x .top) (x .at-rules) (x .head-is) (omega arith) in
+      let in-rules : x .at-excuses ≤ length s = steps .inside s (x .at-rules) (j .rules) (x .at-excuses) (x .rules-are) in-head in
+      let ends : x .at-excuses ≡ length s = omega (arith, x .ends, place-same (x .excuses-are)) in
+      let first = goes-head .same s more 0 (x .top) (x .at-rules) (more-alike (x .at-rules) in-head) (x .head-is) in
+      let then = steps .same s more (x .at-rules) (j .rules) (x .at-excuses) (more-alike (x .at-excuses) in-rules) (x .rules-are) in
       let last = end-read more (length s + 2) more-long in
-      rw (first, then, ends, none-read (i .0 .wires), last) (ap accepted (got-inj _ j _ _ (e .3)))
+      let none : [] ≡ j .excuses = got-inj [] (j .excuses) (x .at-excuses) (x .last) (x .excuses-are) in
+      rw (first, then, ends, none-read (x .top .wires), last) (ap (λ (es : List ℕ). accepted (jobOf (x .top) (j .rules) es)) none ∙ ap accepted (x .job-is))
 
   pub form-one : (j : Job) → j .excuses ≡ [] → readJob Two (s ++ (0 ∷ 0 ∷ [])) ≡ accepted j → readJob One s ≡ accepted j
-  unfolding rules excuses readJob job
+  unfolding excuses readJob job
   form-one j free ok =
-      let a = accepted-inv (job Two more 0) j ok in
-      let i = next-inv (head more 0) _ j (a .0) (a .1) in
-      let steps = goes-rules (i .0 .count) (termsOf (i .0 .wires)) in
-      let r = next-inv (rules (i .0 .count) (termsOf (i .0 .wires)) more (i .1)) _ j (a .0) (i .3) in
-      let x = next-inv (excuses Two (i .0 .wires) more (r .1)) _ j (a .0) (r .3) in
-      let w = next-inv (wordCount excuseLimit more (r .1)) _ (x .0) (x .1) (x .2) in
-      let e = next-inv (end more (x .1)) _ j (a .0) (x .3) in
-      let job-is = got-inj _ j _ _ (e .3) in
-      let none : x .0 ≡ [] = ap (λ (k : Job). k .excuses) job-is ∙ free in
-      let zero-read : 0 ≡ w .0 = ap length (sym none) ∙ rules-length (w .0) (wireTermsOf (i .0 .wires)) more (w .1) (x .0) (x .1) (w .3) in
-      let there : got [] (w .1) ≡ got (x .0) (x .1) = rw (← zero-read) at (w .3) in
-      let in-head : i .1 ≤ length more = goes-head .inside more 0 (i .0) (i .1) (i .2) (omega arith) in
-      let in-rules : r .1 ≤ length more = steps .inside more (i .1) (r .0) (r .1) (r .2) in-head in
-      let in-count : w .1 ≤ length more = goes-word-count excuseLimit .inside more (r .1) (w .0) (w .1) (w .2) in-rules in
-      let after : w .1 ≡ r .1 + 2 = word-count-next excuseLimit more (r .1) (w .0) (w .1) (w .2) in
-      let ends : r .1 ≡ length s = omega (arith, more-long, place-same there, end-there more (x .1) (e .0) (e .1) (e .2)) in
-      let on-rules : i .1 ≤ r .1 = steps .on more (i .1) (r .0) (r .1) (r .2) in
-      let first = goes-head .same more s 0 (i .0) (i .1) (less-alike (i .1) (omega arith)) (i .2) in
-      let then = steps .same more s (i .1) (r .0) (r .1) (less-alike (r .1) (omega arith)) (r .2) in
-      let last = end-read s (r .1) (sym ends) in
-      rw (first, then, last) (ap (λ (es : List ℕ). accepted (jobOf (i .0) (r .0) es)) (sym none) ∙ ap accepted job-is)
+      let x = sections Two more j ok in
+      let steps = goes-rules (x .top .count) (termsOf (x .top .wires)) in
+      let ends : x .at-excuses ≡ length s = omega (arith, more-long, none-last more j ok free) in
+      let on-rules : x .at-rules ≤ x .at-excuses = steps .on more (x .at-rules) (j .rules) (x .at-excuses) (x .rules-are) in
+      let first = goes-head .same more s 0 (x .top) (x .at-rules) (less-alike (x .at-rules) (omega arith)) (x .head-is) in
+      let then = steps .same more s (x .at-rules) (j .rules) (x .at-excuses) (less-alike (x .at-excuses) (omega arith)) (x .rules-are) in
+      let last = end-read s (x .at-excuses) (sym ends) in
+      rw (first, then, last) (ap (λ (es : List ℕ). accepted (jobOf (x .top) (j .rules) es)) (sym free) ∙ ap accepted (x .job-is))

@@ -149,9 +149,7 @@ pub record Sections (f : Form) (s : List ℕ) (j : Job) : Type 0 where
   pub rules-are : rules (top .count) (termsOf (top .wires)) s at-rules ≡ got (j .rules) at-excuses
   pub excuses-are : excuses f (top .wires) s at-excuses ≡ got (j .excuses) last
   pub ends : length s ≤ last
-  pins-are : j .pins ≡ top .pins
-  a-is : j .seesA ≡ top .seesA
-  b-is : j .seesB ≡ top .seesB
+  pub job-is : record { pins = top .pins; seesA = top .seesA; seesB = top .seesB; rules = j .rules; excuses = j .excuses } ≡ j
 
 pub sections : (f : Form) (s : List ℕ) (j : Job) → readJob f s ≡ accepted j → Sections f s j
 unfolding readJob job
@@ -171,20 +169,27 @@ sections f s j ok =
       rules-are = r .2 ∙ ap (λ (k : Job). got (k .rules) (r .1)) same;
       excuses-are = x .2 ∙ ap (λ (k : Job). got (k .excuses) (x .1)) same;
       ends = end-there s (x .1) (e .0) (e .1) (e .2);
-      pins-are = sym (ap (λ (k : Job). k .pins) same);
-      a-is = sym (ap (λ (k : Job). k .seesA) same);
-      b-is = sym (ap (λ (k : Job). k .seesB) same);
+      job-is = λ k. record { pins = same k .pins; seesA = same k .seesA; seesB = same k .seesB; rules = j .rules; excuses = j .excuses };
     }
 
 module _ (f : Form) (s : List ℕ) (j : Job) (ok : readJob f s ≡ accepted j) where
   abbrev x : Sections f s j
   x = sections f s j ok
 
+  pins-are : j .pins ≡ x .top .pins
+  pins-are = sym (ap (λ (k : Job). k .pins) (x .job-is))
+
+  a-is : j .seesA ≡ x .top .seesA
+  a-is = sym (ap (λ (k : Job). k .seesA) (x .job-is))
+
+  b-is : j .seesB ≡ x .top .seesB
+  b-is = sym (ap (λ (k : Job). k .seesB) (x .job-is))
+
   wires-are : length (j .pins) ≡ x .top .wires
-  wires-are = ap length (x .pins-are) ∙ head-facts s (x .top) (x .at-rules) (x .head-is) .2
+  wires-are = ap length pins-are ∙ head-facts s (x .top) (x .at-rules) (x .head-is) .2
 
   pub pins-stay : j .pins ≡ take (length (j .pins)) (drop 1 s)
-  pins-stay = x .pins-are ∙ head-sets s (x .top) (x .at-rules) (x .head-is) .2 ∙ ap (λ (k : ℕ). take k (drop 1 s)) (sym wires-are)
+  pins-stay = pins-are ∙ head-sets s (x .top) (x .at-rules) (x .head-is) .2 ∙ ap (λ (k : ℕ). take k (drop 1 s)) (sym wires-are)
 
   -- all that is stored is the rules and the excuses
   pub masks-kept : keptMasks f s ≡ j .rules ++ j .excuses
@@ -213,12 +218,12 @@ module _ (f : Form) (s : List ℕ) (j : Job) (ok : readJob f s ≡ accepted j) w
       let b = head-facts s (x .top) (x .at-rules) (x .head-is) in
       let g = head-sets s (x .top) (x .at-rules) (x .head-is) in
       let k : length (j .rules) ≡ x .top .count = rules-length (x .top .count) (termsOf (x .top .wires)) s (x .at-rules) (j .rules) (x .at-excuses) (x .rules-are) in
-      (rw wires-are (b .0), rw k (b .1), rw (x .a-is, wires-are) (g .0), rw (x .b-is, wires-are) (g .1))
+      (rw wires-are (b .0), rw k (b .1), rw (a-is, wires-are) (g .0), rw (b-is, wires-are) (g .1))
 
   pub seen-bounds : (ones (j .seesA) ≤ seenLimit) × (ones (j .seesB) ≤ seenLimit)
   seen-bounds =
       let g = head-sets s (x .top) (x .at-rules) (x .head-is) in
-      (rw (x .a-is) (g .3), rw (x .b-is) (g .4))
+      (rw a-is (g .3), rw b-is (g .4))
 
   pub rule-bounds : (i : ℕ) → i < length (j .rules) → getD (j .rules) i 0 < 2 ^ termsOf (length (j .pins))
   unfolding Below

@@ -85,7 +85,7 @@ goes-word : Goes word
 unfolding word
 goes-word = goes-then byte _ goes-byte (λ low. goes-then byte _ goes-byte (λ high. goes-give (low + 256 * high)))
 
-pub goes-within : (most first n : ℕ) → Goes (within most first n)
+goes-within : (most first n : ℕ) → Goes (within most first n)
 unfolding within
 goes-within most first n = goes-pick (leb n most) (give n) (λ s at. refused (TooMany first)) (goes-give n) (goes-refused (TooMany first))
 

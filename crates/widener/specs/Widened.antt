@@ -1,21 +1,18 @@
 -- How a widener call ends, for either form and every four byte lists (document 01, "Outcome numbers").
 --     widened       the ending
 -- Widener: P's 1–5, Q's, then the checker's refusals, 15, 14, 6. Assumes nothing: these are definitions.
-use mathlib.Core.Bool.{Bool}
 use mathlib.Core.List.{List, _++_}
 use Prim.Native.Nat.{ℕ}
 use lib.Dec.{ltb, eqb}
 use lib.ListN.{length}
-use Rattle.steps.specs.declared.Outcome.{Outcome}
 use Rattle.steps.specs.Step.{pick}
 use Rattle.steps.specs.Outcome.{refusal, refusedJob, refusedAnswer, Ending, refusing, writing}
 use Rattle.sheet.specs.declared.Form.{Form}
 use Rattle.sheet.specs.Job.{Job, Verdict, accepted, rejected}
 use Rattle.sheet.specs.JobSheet.{readJob}
-use Rattle.answer.specs.Answer.{Answer, tables, walk, AnswerVerdict, answered}
+use Rattle.answer.specs.Answer.{tables, walk, AnswerVerdict, answered}
 use Rattle.answer.specs.Answer.{rejected as unanswered}
 use Rattle.answer.specs.AnswerSheet.{readAnswer, longest}
-use Rattle.board.specs.Board.{Board}
 use Rattle.board.specs.JobBoard.{jobBoard}
 use Rattle.board.specs.Check.{judgeTables, judgeWalk}
 use Rattle.widener.specs.Asks.{asksb}
