@@ -1,5 +1,7 @@
 -- What moving promises, for every sheet s that is moved to the form f, as t.
---     Moves          t is accepted in its form, as the job that s is in the other, and moved back it is s
+--     Moves, moves   t is accepted in its form, as the job that s is in the other, and moved back it is s
+--     same-read      so the two are read as one
+--     written        a call with room writes t
 --     called         a call that answers 0 has written t, at the front of the buffer
 --     there-and-back     so what it wrote, moved back by a call with room, is s again
 -- Assumes nothing.

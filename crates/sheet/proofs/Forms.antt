@@ -1,5 +1,6 @@
 -- A sheet of form one, and the same sheet with no excuses in form two, are one job.
---     fifth-is, fifth-inside, none-last      where the excuse count of a sheet of form two stands, and that it is the end where there are no excuses
+--     fifth-is, fifth-inside      where the excuse count of a sheet of form two stands
+--     none-last      without excuses it is the last two bytes
 --     form-two       what form one accepts, form two accepts as the same job, with two bytes more
 --     form-one       and back, where the job has no excuses: else those bytes may be two empty ones
 -- Assumes nothing.
@@ -58,7 +59,8 @@ module _ (t : List ℕ) (j : Job) (ok : readJob Two t ≡ accepted j) where
   x = sections Two t j ok
 
   -- the excuse count stands after the rules, and the excuses after it
-  pub fifth-is : (wordCount excuseLimit t (x .at-excuses) ≡ got (length (j .excuses)) (x .at-excuses + 2)) × (rules (length (j .excuses)) (wireTermsOf (x .top .wires)) t (x .at-excuses + 2) ≡ got (j .excuses) (x .last))
+  pub fifth-is : (wordCount excuseLimit t (x .at-excuses) ≡ got (length (j .excuses)) (x .at-excuses + 2))
+      × (rules (length (j .excuses)) (wireTermsOf (x .top .wires)) t (x .at-excuses + 2) ≡ got (j .excuses) (x .last))
   unfolding excuses
   fifth-is =
       let w = next-inv (wordCount excuseLimit t (x .at-excuses)) _ (j .excuses) (x .last) (x .excuses-are) in

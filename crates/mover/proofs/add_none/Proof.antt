@@ -1,12 +1,12 @@
 -- `mover::add_none` meets its contract: the sheet and then the count are one run. Assumes nothing.
-use native.Mathlib.Omega.{arith}
 use mathlib.Core.Path.{ap, _∙_}
 use mathlib.Core.List.{_++_}
+use native.Mathlib.Omega.{arith}
 use borrow.Author.Needs.{needs}
 use lib.ListN.{length-append}
 use Rattle.steps.specs.Outcome.{success}
-use Rattle.answer.specs.Written.{two}
 use Rattle.steps.proofs.Runs.{joined}
+use Rattle.answer.specs.Written.{two}
 use Rattle.mover.proofs.Ends.{put-no-room, put-wrote}
 use Rattle.mover.proofs.add_none.Statement.{statement}
 use Rattle.mover.proofs.add_none.Tie as tie

@@ -1,12 +1,12 @@
 -- `mover::drop_none` meets its contract: all but the last two bytes are one run. Assumes nothing.
-use native.Mathlib.Omega.{arith}
 use mathlib.Core.Path.{sym, ap, _∙_}
 use Prim.Native.Nat.{_-_}
 use native.Mathlib.Nat.{zero-add}
-use lib.ListN.{length, take}
-use Rattle.steps.specs.Outcome.{success}
-use lib.Seq.{length-take-le}
+use native.Mathlib.Omega.{arith}
 use borrow.Author.Needs.{needs}
+use lib.ListN.{length, take}
+use lib.Seq.{length-take-le}
+use Rattle.steps.specs.Outcome.{success}
 use Rattle.mover.proofs.Ends.{put-no-room, put-wrote}
 use Rattle.mover.proofs.drop_none.Statement.{statement}
 use Rattle.mover.proofs.drop_none.Tie as tie

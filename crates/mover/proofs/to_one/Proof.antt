@@ -4,8 +4,8 @@ use native.Mathlib.Omega.{arith}
 use borrow.Author.Needs.{needs}
 use Rattle.steps.specs.Outcome.{refusal}
 use Rattle.sheet.specs.declared.JobHead.{JobHead}
-use Rattle.mover.proofs.Front.{inside}
 use Rattle.sheet.proofs.Jobs.{job-accepted, job-refused}
+use Rattle.mover.proofs.Front.{inside}
 use Rattle.mover.proofs.Ends.{one-refused, one-lost, one-taken}
 use Rattle.mover.proofs.to_one.Statement.{statement}
 use Rattle.mover.proofs.to_one.Tie as tie
