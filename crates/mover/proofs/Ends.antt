@@ -1,4 +1,5 @@
 -- The ways out of a move, each with how it ends.
+--     front-fits     the front of a sheet has room where its length has
 --     put-no-room, put-wrote       a sheet that was to be written
 --     two-refused, two-taken       to form two
 --     one-refused, one-lost, one-taken     to form one
@@ -8,7 +9,7 @@ use mathlib.Core.List.{List, [], _∷_, _++_}
 use Prim.Native.Nat.{ℕ, _+_, _-_, _≤_, _<_}
 use native.Mathlib.Omega.{arith}
 use borrow.Author.Tests.{le-leb, lt-leb}
-use lib.ListN.{length, take}
+use lib.ListN.{length, take, length-take}
 use lib.Seq.{sets}
 use Rattle.steps.specs.declared.Outcome.{Outcome}
 use Rattle.steps.specs.declared.Refusal.{Refusal}
@@ -20,6 +21,9 @@ use Rattle.sheet.specs.JobSheet.{readJob}
 use Rattle.answer.specs.Written.{two}
 use Rattle.mover.specs.Moved.{excusesAt, without, put, ending, movedTo, moving}
 use Rattle.mover.proofs.Front.{none-long}
+
+pub front-fits : (kept : ℕ) (s buf : List ℕ) → kept ≤ length buf → 0 + length (take kept s) ≤ length buf
+front-fits kept s buf l = omega (arith, length-take kept s)
 
 module _ (t entry : List ℕ) {o : Outcome} where
   pub put-no-room : length entry < length t → o ≡ refusal 6 0 0 → Ended (put t entry) o entry

@@ -39,7 +39,7 @@ fn add_none(sheet: &[u8], out: &mut [u8]) -> Outcome
 
 // The sheet without that section, which stands at its end, if there is room.
 fn drop_none(sheet: &[u8], out: &mut [u8]) -> Outcome
-    requires { ⌜ 2 ≤ length (now sheet) ⌝ }
+    requires { ⌜ 7 ≤ length (now sheet) ⌝ }
     ensures { λ r. ⌜ Ended (put (take (length (now (sheet .entry)) - 2) (now (sheet .entry))) (now (out .entry))) r (now (out .exit)) ⌝ }
 {
     let kept = sheet.len() - NONE;

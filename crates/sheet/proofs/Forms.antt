@@ -1,6 +1,7 @@
 -- A sheet of form one, and the same sheet with no excuses in form two, are one job.
 --     fifth-is, fifth-inside      where the excuse count of a sheet of form two stands
 --     none-last      without excuses it is the last two bytes
+--     seven-bytes    no sheet of form two is shorter
 --     form-two       what form one accepts, form two accepts as the same job, with two bytes more
 --     form-one       and back, where the job has no excuses: else those bytes may be two empty ones
 -- Assumes nothing.
@@ -15,9 +16,9 @@ use Rattle.steps.proofs.Entries.{next-inv, got-inj, place-same}
 use Rattle.steps.proofs.Near.{Alike, word-next, end-read}
 use Rattle.steps.proofs.Goes.{Goes, goes-then, goes-give, goes-count, goes-word-count, goes-entries}
 use Rattle.sheet.specs.declared.Form.the-variants.{One, Two}
-use Rattle.sheet.specs.Job.{Job, accepted}
+use Rattle.sheet.specs.Job.{Job, Head, accepted}
 use Rattle.sheet.specs.JobSheet.{wireLimit, seenLimit, pinLimit, ruleLimit, excuseLimit, termsOf, wireTermsOf, maskOf, mask, countedMask, rules, excuses, head, job, readJob}
-use Rattle.sheet.proofs.Heads.{word-count-is}
+use Rattle.sheet.proofs.Heads.{count-bounds, word-count-is}
 use Rattle.sheet.proofs.Jobs.{rules-length}
 use Rattle.sheet.proofs.Laws.{Sections, sections}
 use Rattle.sheet.proofs.Length.{jobOf}
@@ -49,6 +50,34 @@ goes-head =
 word-count-next : (most : ℕ) (s : List ℕ) (at v n : ℕ) → wordCount most s at ≡ got v n → n ≡ at + 2
 word-count-next most s at v n h = word-next s at v n (word-count-is most s at v n h)
 
+-- the sections down to the count of rules take 5 bytes or more
+set-on : (most limit : ℕ) (s : List ℕ) (at v n : ℕ) → countedMask most limit s at ≡ got v n → at + 1 ≤ n
+unfolding countedMask mask
+set-on most limit s at v n h =
+    let i = next-inv (count most s at) _ v n h in
+    let j = next-inv (entries (i .0) limit 0 s (i .1)) _ v n (i .3) in
+    omega (arith, count-bounds most s at (i .0) (i .1) (i .2) .1, goes-entries (i .0) limit 0 .on s (i .1) (j .0) (j .1) (j .2), place-same (j .3))
+
+head-on : (s : List ℕ) (h : Head) (n : ℕ) → head s 0 ≡ got h n → 5 ≤ n
+unfolding head
+head-on s h n e =
+    let i = next-inv (count wireLimit s 0) _ h n e in
+    let p = next-inv (entries (i .0) pinLimit 0 s (i .1)) _ h n (i .3) in
+    let a = next-inv (countedMask seenLimit (i .0) s (p .1)) _ h n (p .3) in
+    let b = next-inv (countedMask seenLimit (i .0) s (a .1)) _ h n (a .3) in
+    let k = next-inv (wordCount ruleLimit s (b .1)) _ h n (b .3) in
+    let pins = goes-entries (i .0) pinLimit 0 .on s (i .1) (p .0) (p .1) (p .2) in
+    let first = count-bounds wireLimit s 0 (i .0) (i .1) (i .2) .1 in
+    omega (
+      arith,
+      first,
+      pins,
+      set-on seenLimit (i .0) s (p .1) (a .0) (a .1) (a .2),
+      set-on seenLimit (i .0) s (a .1) (b .0) (b .1) (b .2),
+      word-count-next ruleLimit s (b .1) (k .0) (k .1) (k .2),
+      place-same (k .3),
+    )
+
 no-rules : (rs : List ℕ) (terms : ℕ) (s : List ℕ) (at n : ℕ) → rs ≡ [] → rules (length rs) terms s at ≡ got rs n → at ≡ n
 unfolding rules
 no-rules rs terms s at n none h = let there : got [] at ≡ got [] n = rw none at h in place-same there
@@ -72,6 +101,11 @@ module _ (t : List ℕ) (j : Job) (ok : readJob Two t ≡ accepted j) where
       let first = goes-head .inside t 0 (x .top) (x .at-rules) (x .head-is) (omega arith) in
       let there = goes-rules (x .top .count) (termsOf (x .top .wires)) .inside t (x .at-rules) (j .rules) (x .at-excuses) (x .rules-are) first in
       goes-word-count excuseLimit .inside t (x .at-excuses) _ _ (fifth-is .0) there
+
+  pub seven-bytes : 7 ≤ length t
+  seven-bytes =
+      let on = goes-rules (x .top .count) (termsOf (x .top .wires)) .on t (x .at-rules) (j .rules) (x .at-excuses) (x .rules-are) in
+      omega (arith, head-on t (x .top) (x .at-rules) (x .head-is), fifth-inside)
 
   pub none-last : j .excuses ≡ [] → length t ≡ x .at-excuses + 2
   none-last none = omega (arith, x .ends, fifth-inside, no-rules (j .excuses) (wireTermsOf (x .top .wires)) t (x .at-excuses + 2) (x .last) none (fifth-is .1))

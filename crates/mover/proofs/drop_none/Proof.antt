@@ -7,7 +7,7 @@ use borrow.Author.Needs.{needs}
 use lib.ListN.{length, take}
 use lib.Seq.{length-take-le}
 use Rattle.steps.specs.Outcome.{success}
-use Rattle.mover.proofs.Ends.{put-no-room, put-wrote}
+use Rattle.mover.proofs.Ends.{front-fits, put-no-room, put-wrote}
 use Rattle.mover.proofs.drop_none.Statement.{statement}
 use Rattle.mover.proofs.drop_none.Tie as tie
 
@@ -27,9 +27,7 @@ slice-aggregate-write-rows : tie.Need-slice-aggregate-write-rows
 slice-aggregate-write-rows c = sym (length-take-le _ _ (omega arith))
 
 write-rows-requires : tie.Need-write-rows-requires
-write-rows-requires c κs =
-    let start = c .before .before .before .before .before .args in
-    omega (arith, length-take-le (length (start .sheet .now) - 2) (start .sheet .now) (omega arith))
+write-rows-requires c κs = front-fits _ _ (c .before .before .before .before .before .args .out .now) (c .before .before .if1 .left)
 
 succeeded-requires : tie.Need-succeeded-requires
 succeeded-requires c κs = search needs

@@ -5,7 +5,7 @@ use borrow.Author.Needs.{needs}
 use Rattle.steps.specs.Outcome.{refusal}
 use Rattle.sheet.specs.declared.JobHead.{JobHead}
 use Rattle.sheet.proofs.Jobs.{job-accepted, job-refused}
-use Rattle.mover.proofs.Front.{inside}
+use Rattle.sheet.proofs.Forms.{seven-bytes}
 use Rattle.mover.proofs.Ends.{one-refused, one-lost, one-taken}
 use Rattle.mover.proofs.to_one.Statement.{statement}
 use Rattle.mover.proofs.to_one.Tie as tie
@@ -30,7 +30,7 @@ returns c =
 drop-none-requires : tie.Need-drop-none-requires
 drop-none-requires c κs =
     let t = job-accepted _ _ _ _ (c .before .before .before .before .before .before .read-job .ensures .0) (c .before .before .before .before .read .given .1) in
-    omega (arith, inside _ (t .0) (t .1))
+    seven-bytes _ (t .0) (t .1)
 
 enum-known-read-2 : tie.Need-enum-known-read-2
 enum-known-read-2 c = search needs
