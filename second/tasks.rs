@@ -2,15 +2,16 @@
 // Most of these lie near the line between tables and walk, where one rule decides.
 // Answer buffers are full of random bytes, with room enough or too little.
 // Small boards are settled by trying every pair in order, so that this program's own solver is tested too.
-// It leans on make, shapes, ties, damage, room, solve and check.
+// It leans on make, shapes, ties, damage, room, moving, solve and check.
 
 use crate::answer::Answer;
 use crate::board::Board;
-use crate::case::{hex, Call, Case, Judgement, Known, Response};
+use crate::case::{hex, Call, Case, Judgement, Known, Response, LONGEST_SLICE};
 use crate::check::check;
 use crate::damage::damage;
 use crate::job::{Form, Job, JobSheet, MOST_RULES, MOST_WIRES};
 use crate::make::{fitting_job, job_of_size, longest_job, random_job, tied_job};
+use crate::moving::move_sheet;
 use crate::named::{in_form, with_excuses, EQUAL_AS_WIRES, J1, J2, J3, J4, J5, J6, J6_WIDENED, J7};
 use crate::named::{EMPTY, FIRST_IS_0, FIRST_IS_1, FIRST_IS_BOTH, FIRST_IS_EITHER, NONE, NOT_BOTH_HIGH, SPEED_WIRES};
 use crate::outcome::{Outcome, Refusal, JOB, TABLES, WALK};
@@ -45,8 +46,8 @@ pub const WITHOUT_EXCUSES: Call = Call {
     name: "solve without excuses",
     count: 6_000,
     codes: &[6, 20, 21],
-    named: |form, random| without_excuses(form, named_tasks(Form::One, random)),
-    make: |form, random| without_excuses(form, random_tasks(Form::One, random)),
+    named: |_, random| without_excuses(named_tasks(Form::One, random)),
+    make: |_, random| without_excuses(random_tasks(Form::One, random)),
     ..SOLVER
 };
 
@@ -109,11 +110,11 @@ fn tables(a: &[u8], b: &[u8]) -> Known {
     Known::Wrote(TABLES, Answer::Tables([a.to_vec(), b.to_vec()]).sheet())
 }
 
-/// The cases of form one whose jobs are accepted, in this form, with what form one makes of them.
-fn without_excuses(form: Form, cases: Vec<Case>) -> Vec<Case> {
+/// The cases of form one whose jobs are accepted, moved, with what form one makes of them.
+fn without_excuses(cases: Vec<Case>) -> Vec<Case> {
     let moved = |case: Case| {
         let job = read_job(Form::One, &case.slices[0]).ok()?;
-        let sheet = JobSheet::of(&Job { form, ..job.clone() }).bytes;
+        let sheet = move_sheet(Form::One, &case.slices[0], LONGEST_SLICE).ok()?;
         let room = case.slices[1].clone();
         let known = if room.len() < ROOM { no_room() } else { by_solving(&Board::of(job)) };
         Some(Case { slices: vec![sheet, room], known: Some(known) })

@@ -25,7 +25,7 @@ use Rattle.sheet.specs.declared.Form.{Form}
 use Rattle.sheet.specs.declared.Form.the-variants.{One, Two}
 use Rattle.sheet.specs.Job.{Job, Verdict, accepted, rejected}
 use Rattle.steps.specs.Step.{pick}
-use Rattle.steps.specs.Outcome.{codeOf, answerCodeOf, placeOf, success, refusal, Ending, refusing, writing}
+use Rattle.steps.specs.Outcome.{codeOf, answerCodeOf, placeOf, success, refusal, refusedJob, Ending, refusing, writing}
 use Rattle.steps.proofs.Codes.{code-bounds}
 use Rattle.sheet.specs.JobSheet.{readJob, outcomeOf, readOutcome}
 use Rattle.sheet.proofs.Length.{place-small, accepted-short}
@@ -88,19 +88,24 @@ unpack-pack o h = λ i.
 code-small : (w : Refusal) → codeOf w < 2 ^ 8
 code-small w = omega (arith, code-bounds w)
 
+refusal-packs : (c s p : ℕ) → c < 2 ^ 8 → s < 2 ^ 8 → p < 2 ^ 24 → Packs (refusal c s p)
+refusal-packs c s p hc hs hp = record { code = hc; sheet = hs; place = hp; written = omega arith }
+
+success-packs : (c w : ℕ) → c < 2 ^ 8 → w < 2 ^ 24 → Packs (success c w)
+success-packs c w hc hw = record { code = hc; sheet = omega arith; place = omega arith; written = hw }
+
 -- where a job is refused, in either form
 place-packs : (f : Form) (s : List ℕ) (w : Refusal) → readJob f s ≡ rejected w → placeOf w < 2 ^ 24
 place-packs One s w e = omega (arith, place-small One s w e)
 place-packs Two s w e = omega (arith, place-small Two s w e)
 
+-- a refusal of a job sheet, in either form, told as that of the sheet n
+refused-packs : (f : Form) (s : List ℕ) (w : Refusal) (n : ℕ) → n < 2 ^ 8 → readJob f s ≡ rejected w → Packs (refusedJob n w)
+refused-packs f s w n l e = refusal-packs (codeOf w) n (placeOf w) (code-small w) l (place-packs f s w e)
+
 verdict-packs : (f : Form) (s : List ℕ) (v : Verdict) → readJob f s ≡ v → Packs (outcomeOf v)
-verdict-packs f s (accepted j) e = record { code = omega arith; sheet = omega arith; place = omega arith; written = omega arith }
-verdict-packs f s (rejected w) e = record {
-  code = code-small w;
-  sheet = omega arith;
-  place = place-packs f s w e;
-  written = omega arith;
-}
+verdict-packs f s (accepted j) e = success-packs 0 0 (omega arith) (omega arith)
+verdict-packs f s (rejected w) e = refused-packs f s w 1 (omega arith) e
 
 pub read-packs : (f : Form) (s : List ℕ) → Packs (readOutcome f s)
 unfolding readOutcome
@@ -110,12 +115,6 @@ pub read-found : (f : Form) (s : List ℕ) → unpack (pack (readOutcome f s)) �
 read-found f s = unpack-pack (readOutcome f s) (read-packs f s)
 
 -- ---- the checker
-
-refusal-packs : (c s p : ℕ) → c < 2 ^ 8 → s < 2 ^ 8 → p < 2 ^ 24 → Packs (refusal c s p)
-refusal-packs c s p hc hs hp = record { code = hc; sheet = hs; place = hp; written = omega arith }
-
-success-packs : (c w : ℕ) → c < 2 ^ 8 → w < 2 ^ 24 → Packs (success c w)
-success-packs c w hc hw = record { code = hc; sheet = omega arith; place = omega arith; written = hw }
 
 answer-code-small : (w : Refusal) → answerCodeOf w < 2 ^ 8
 answer-code-small (Ends p) = omega arith
@@ -160,7 +159,7 @@ after-packs f job answer (accepted j) e =
     judge-packs (jobBoard j) (pow-mono (b .0)) (pow-mono (m .0)) (pow-mono (m .1)) answer
     (readAnswer (jobBoard j .rowsA) (jobBoard j .rowsB) (jobBoard j .combinations) answer) refl
 after-packs f job answer (rejected w) e =
-    refusal-packs (codeOf w) 1 (placeOf w) (code-small w) (omega arith) (place-packs f job w e)
+    refused-packs f job w 1 (omega arith) e
 
 pub check-packs : (f : Form) (job answer : List ℕ) → Packs (checkOutcome f job answer)
 unfolding checkOutcome
@@ -179,7 +178,7 @@ on-packs B entry o exit la lb (walked es p st l e w) =
 
 pub solve-packs : {form : Form} {job entry : List ℕ} {o : Outcome} {exit : List ℕ} → Solved form job entry o exit → Packs o
 solve-packs {form} {job} {entry} {o} {exit} (refused w e p q) =
-    rw p (refusal-packs (codeOf w) 1 (placeOf w) (code-small w) (omega arith) (place-packs form job w e))
+    rw p (refused-packs form job w 1 (omega arith) e)
 solve-packs {form} {job} {entry} {o} {exit} (noRoom j e l p q) = rw p (refusal-packs 6 0 0 (omega arith) (omega arith) (omega arith))
 solve-packs {form} {job} {entry} {o} {exit} (solved j e l s) =
     let m = seen-bounds form job j e in
@@ -225,12 +224,12 @@ q-packs f p q s entry P isP (accepted Q) e =
     judged-packs P Q s entry (pow-mono (b .0)) (pow-mono (m .0)) (pow-mono (m .1)) (pow-mono (k .0)) (pow-mono (k .1))
     (readAnswer (jobBoard P .rowsA) (jobBoard P .rowsB) (jobBoard P .combinations) s) refl
 q-packs f p q s entry P isP (rejected w) e =
-    refusal-packs (codeOf w) 3 (placeOf w) (code-small w) (omega arith) (place-packs f q w e)
+    refused-packs f q w 3 (omega arith) e
 
 p-packs : (f : Form) (p q s entry : List ℕ) (v : Verdict) → readJob f p ≡ v → Packs (withNone f v q s entry .outcome)
 p-packs f p q s entry (accepted P) e = q-packs f p q s entry P e (readJob f q) refl
 p-packs f p q s entry (rejected w) e =
-    refusal-packs (codeOf w) 1 (placeOf w) (code-small w) (omega arith) (place-packs f p w e)
+    refused-packs f p w 1 (omega arith) e
 
 pub widen-packs : (f : Form) (p q s entry : List ℕ) → Packs (widened f p q s entry .outcome)
 unfolding widened
@@ -242,12 +241,7 @@ widen-found f p q s entry = unpack-pack (widened f p q s entry .outcome) (widen-
 -- ---- the writer
 
 written-packs : (g : Judged) (long : ℕ) → Small g → (g ≡ Fine → long < 65536) → Packs (outcomeWritten g long)
-written-packs Fine long h l = record {
-  code = omega arith;
-  sheet = omega arith;
-  place = omega arith;
-  written = omega (arith, l refl);
-}
+written-packs Fine long h l = success-packs 0 long (omega arith) (omega (arith, l refl))
 written-packs (Amiss c s p) long h l = refusal-packs c s p (omega (arith, h .code)) (omega (arith, h .section)) (omega (arith, h .place))
 
 pub write-packs : (j : Job) (room : ℕ) → Packs (writeOutcome j room)
@@ -267,7 +261,7 @@ put-packs t entry l =
 module _ (s entry : List ℕ) where
   two-packs : (v : Verdict) → readJob One s ≡ v → Packs (ending (toTwo v s) entry .outcome)
   two-packs (accepted j) e = put-packs (s ++ two 0) entry (omega (arith, accepted-short Two (s ++ two 0) j (form-two s j e)))
-  two-packs (rejected w) e = refusal-packs (codeOf w) 1 (placeOf w) (code-small w) (omega arith) (place-packs One s w e)
+  two-packs (rejected w) e = refused-packs One s w 1 (omega arith) e
 
   none-packs : (j : Job) → readJob Two s ≡ accepted j → (es : List ℕ) → Packs (ending (without es s) entry .outcome)
   none-packs j e [] =
@@ -277,7 +271,7 @@ module _ (s entry : List ℕ) where
 
   one-packs : (v : Verdict) → readJob Two s ≡ v → Packs (ending (toOne v s) entry .outcome)
   one-packs (accepted j) e = none-packs j e (j .excuses)
-  one-packs (rejected w) e = refusal-packs (codeOf w) 1 (placeOf w) (code-small w) (omega arith) (place-packs Two s w e)
+  one-packs (rejected w) e = refused-packs Two s w 1 (omega arith) e
 
   pub move-packs : (f : Form) → Packs (moving f s entry .outcome)
   unfolding moving movedTo

@@ -1,7 +1,7 @@
 -- A sheet of form one, and the same sheet with no excuses in form two, are one job.
 --     fifth-is, fifth-inside      where the excuse count of a sheet of form two stands
 --     none-last      without excuses it is the last two bytes
---     seven-bytes    no sheet of form two is shorter
+--     five-bytes, seven-bytes     no sheet is shorter than 5 bytes, and none of form two than 7
 --     form-two       what form one accepts, form two accepts as the same job, with two bytes more
 --     form-one       and back, where the job has no excuses: else those bytes may be two empty ones
 -- Assumes nothing.
@@ -15,6 +15,7 @@ use Rattle.steps.specs.Bytes.{count, wordCount, entries}
 use Rattle.steps.proofs.Entries.{next-inv, got-inj, place-same}
 use Rattle.steps.proofs.Near.{Alike, word-next, end-read}
 use Rattle.steps.proofs.Goes.{Goes, goes-then, goes-give, goes-count, goes-word-count, goes-entries}
+use Rattle.sheet.specs.declared.Form.{Form}
 use Rattle.sheet.specs.declared.Form.the-variants.{One, Two}
 use Rattle.sheet.specs.Job.{Job, Head, accepted}
 use Rattle.sheet.specs.JobSheet.{wireLimit, seenLimit, pinLimit, ruleLimit, excuseLimit, termsOf, wireTermsOf, maskOf, mask, countedMask, rules, excuses, head, job, readJob}
@@ -77,6 +78,11 @@ head-on s h n e =
       word-count-next ruleLimit s (b .1) (k .0) (k .1) (k .2),
       place-same (k .3),
     )
+
+pub five-bytes : (f : Form) (s : List ℕ) (j : Job) → readJob f s ≡ accepted j → 5 ≤ length s
+five-bytes f s j ok =
+    let x = sections f s j ok in
+    omega (arith, head-on s (x .top) (x .at-rules) (x .head-is), goes-head .inside s 0 (x .top) (x .at-rules) (x .head-is) (omega arith))
 
 no-rules : (rs : List ℕ) (terms : ℕ) (s : List ℕ) (at n : ℕ) → rs ≡ [] → rules (length rs) terms s at ≡ got rs n → at ≡ n
 unfolding rules

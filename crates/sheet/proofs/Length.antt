@@ -4,10 +4,10 @@
 --     first-decide       the first 7,458 bytes decide
 --     place-small        every place that a refusal tells is at most 7,458
 -- Assumes nothing.
-use mathlib.Core.Path.{_≡_, refl, sym, ap, _∙_}
+use mathlib.Core.Path.{_≡_, refl, sym, ap}
 use mathlib.Core.Logic.{by-cases}
 use mathlib.Core.List.{List, [], _∷_}
-use Prim.Native.Nat.{ℕ, zero, suc, _+_, _*_, _≤_, _<_}
+use Prim.Native.Nat.{ℕ, zero, suc, _+_, _*_, _≤_}
 use native.Mathlib.Nat.{mul-le-mul}
 use native.Mathlib.Decide.{decLe}
 use native.Mathlib.Omega.{arith}
@@ -17,14 +17,13 @@ use Rattle.steps.specs.declared.Refusal.{Refusal}
 use Rattle.steps.specs.Step.{Step, got, refused, next}
 use Rattle.steps.specs.Bytes.{count, wordCount, entries, end}
 use Rattle.steps.specs.Outcome.{placeOf}
-use Rattle.steps.proofs.Entries.{next-inv}
-use Rattle.steps.proofs.Near.{Near, near-then, near-more, near-give, near-count, near-word-count, near-entries, near-end, end-there, cut-alike}
+use Rattle.steps.proofs.Near.{Near, near-then, near-more, near-give, near-count, near-word-count, near-entries, near-end, cut-alike}
 use Rattle.sheet.specs.declared.Form.{Form}
 use Rattle.sheet.specs.declared.Form.the-variants.{One, Two}
-use Rattle.sheet.specs.Job.{Job, Head, Verdict, accepted, rejected}
+use Rattle.sheet.specs.Job.{Job, Head, accepted, rejected}
 use Rattle.sheet.specs.JobSheet.{maskOf, mask, countedMask, rules, excuses, head, job, readJob, verdictOf, termsOf, wireTermsOf, wireLimit, seenLimit, ruleLimit, excuseLimit, pinLimit, longest}
 use Rattle.sheet.proofs.Heads.{count-bounds, word-count-bounds, head-facts}
-use Rattle.sheet.proofs.Laws.{accepted-inv}
+use Rattle.sheet.proofs.Laws.{sections}
 
 near-mask : (n limit at : ℕ) → Near n at (λ s. mask n limit s at)
 unfolding mask
@@ -148,18 +147,13 @@ unfolding readJob
 place-small f s w h = omega (arith, job-near f .faulty s w (refused-inv (job f s 0) w h))
 
 pub accepted-short : (f : Form) (s : List ℕ) (j : Job) → readJob f s ≡ accepted j → length s ≤ longest f
-unfolding readJob job
 accepted-short f s j ok =
-    let a = accepted-inv (job f s 0) j ok in
-    let i = next-inv (head s 0) _ j (a .0) (a .1) in
-    let r = next-inv (rules (i .0 .count) (termsOf (i .0 .wires)) s (i .1)) _ j (a .0) (i .3) in
-    let x = next-inv (excuses f (i .0 .wires) s (r .1)) _ j (a .0) (r .3) in
-    let e = next-inv (end s (x .1)) _ j (a .0) (x .3) in
-    let b = head-facts s (i .0) (i .1) (i .2) in
-    let to-rules : i .1 ≤ 33 = near-head .found s (i .0) (i .1) (i .2) in
-    let to-excuses : r .1 ≤ i .1 + 7424 = near-head-rules (i .0) (i .1) (b .0) (b .1) .found s (r .0) (r .1) (r .2) in
-    let to-end : x .1 ≤ r .1 + excusesMost f = near-excuses f (i .0 .wires) (r .1) (b .0) .found s (x .0) (x .1) (x .2) in
-    omega (arith, longest-is f, end-there s (x .1) (e .0) (e .1) (e .2))
+    let x = sections f s j ok in
+    let b = head-facts s (x .top) (x .at-rules) (x .head-is) in
+    let to-rules : x .at-rules ≤ 33 = near-head .found s (x .top) (x .at-rules) (x .head-is) in
+    let to-excuses : x .at-excuses ≤ x .at-rules + 7424 = near-head-rules (x .top) (x .at-rules) (b .0) (b .1) .found s (j .rules) (x .at-excuses) (x .rules-are) in
+    let to-end : x .last ≤ x .at-excuses + excusesMost f = near-excuses f (x .top .wires) (x .at-excuses) (b .0) .found s (j .excuses) (x .last) (x .excuses-are) in
+    omega (arith, longest-is f, x .ends)
 
 pub first-decide : (f : Form) (s : List ℕ) → readJob f (take (longest f + 1) s) ≡ readJob f s
 unfolding readJob

@@ -7,38 +7,25 @@
 use mathlib.Core.Path.{_≡_, refl, sym, ap, _∙_}
 use mathlib.Core.Bool.{Bool, true, false, not, _&&_}
 use mathlib.Core.List.{List}
-use Prim.Native.Nat.{ℕ, _+_, _<_, _≤_}
+use Prim.Native.Nat.{ℕ, _+_, _≤_}
 use native.Mathlib.Omega.{arith}
 use borrow.Author.Tests.{not-true, not-false}
 use lib.ListN.{length, take, drop, length-take, length-drop}
-use Rattle.steps.specs.Bytes.{byte, count}
-use Rattle.steps.proofs.Entries.{next-inv, byte-in}
-use Rattle.sheet.specs.declared.Form.{Form}
 use Rattle.sheet.specs.declared.JobHead.{JobHead}
-use Rattle.sheet.specs.Job.{Job, accepted}
-use Rattle.sheet.specs.JobSheet.{head, job, readJob, wireLimit}
-use Rattle.sheet.proofs.Laws.{accepted-inv, pins-stay}
+use Rattle.sheet.specs.Job.{Job}
+use Rattle.sheet.proofs.Laws.{pins-stay}
+use Rattle.sheet.proofs.Forms.{five-bytes}
 use Rattle.wires.specs.Terms.{containsb}
 use Rattle.widener.specs.Asks.{samePins, allWithin, asksb}
 use Rattle.board.proofs.Rules.{behind, behind-is}
 use Rattle.widener.specs.Taking.{TakenAs}
 use Rattle.widener.proofs.Within.{pins-length}
 
--- a sheet that is accepted has a byte
-some-byte : (f : Form) (s : List ℕ) (j : Job) → readJob f s ≡ accepted j → 0 < length s
-unfolding readJob job head count
-some-byte f s j ok =
-    let a = accepted-inv (job f s 0) j ok in
-    let h = next-inv (head s 0) _ j (a .0) (a .1) in
-    let n = next-inv (count wireLimit s 0) _ (h .0) (h .1) (h .2) in
-    let b = next-inv (byte s 0) _ (n .0) (n .1) (n .2) in
-    byte-in s 0 (b .0) (b .1) (b .2)
-
 pub pins-in : (s : List ℕ) (h : JobHead) (masks : List ℕ) (j : Job) (n : ℕ) → TakenAs s h masks j → n ≡ h .wires → 1 + n ≤ length s
 pins-in s h masks j n t e =
     let all : h .wires ≡ length (j .pins) = ap (λ (k : JobHead). k .wires) (t .head) in
     let found : length (j .pins) ≡ length (take (length (j .pins)) (drop 1 s)) = ap length (pins-stay (t .form) s j (t .is)) in
-    omega (arith, length-take (length (j .pins)) (drop 1 s), length-drop 1 s, some-byte (t .form) s j (t .is))
+    omega (arith, length-take (length (j .pins)) (drop 1 s), length-drop 1 s, five-bytes (t .form) s j (t .is))
 
 pub rules-in : {s : List ℕ} {h : JobHead} (masks : List ℕ) (j : Job) → TakenAs s h masks j → h .rules ≤ length masks
 rules-in masks j t = omega (arith, t .sized .count)
