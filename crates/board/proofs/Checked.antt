@@ -1,4 +1,5 @@
 -- What the checker's outcomes mean.
+--     codes-differ, sheets-differ     outcomes of different codes, or sheets, differ
 --     shows             each combination shows a row that the cell has, on every job's board
 --     judged-fits       tables get 20 exactly if they fit
 --     judged-stands     a walk gets 21 exactly if it stands
@@ -24,7 +25,7 @@ use Rattle.wires.proofs.Rows.{row-below}
 use Rattle.steps.specs.declared.Outcome.{Outcome}
 use Rattle.steps.specs.declared.Refusal.{Refusal}
 use Rattle.steps.specs.Step.{pick}
-use Rattle.steps.specs.Outcome.{success, refusal, refusedJob, refusedAnswer, answerCodeOf, placeOf}
+use Rattle.steps.specs.Outcome.{success, refusal, ruleBroken, refusedJob, refusedAnswer}
 use Rattle.sheet.specs.declared.Form.{Form}
 use Rattle.sheet.specs.Job.{Job, Verdict, accepted, rejected}
 use Rattle.sheet.specs.JobSheet.{readJob}
@@ -37,22 +38,23 @@ use Rattle.answer.proofs.Sheets.{tables-read, walk-read, tables-sheet, walk-she
 use Rattle.board.specs.Board.{Board, Shows, rows, opposite}
 use Rattle.board.specs.Tables.{held, Tables, Fits, Pair}
 use Rattle.board.specs.Walk.{entry, Step, Among, Stands, StandsAt}
-use Rattle.board.specs.Tests.{stepb, amongb}
+use Rattle.board.specs.Tests.{lowest, stepb, amongb}
 use Rattle.board.specs.JobBoard.{boardOf, jobBoard}
-use Rattle.board.specs.Check.{lowest, faultAt, tablesAt, judgeTables, nextOf, stepAt, walkAt, judgeWalk, judge, judgeSheet, afterJob, checkOutcome}
+use Rattle.board.specs.Check.{faultAt, ruleAt, tablesAt, judgeTables, nextOf, stepAt, walkAt, judgeWalk, judge, judgeSheet, afterJob, checkOutcome}
 use Rattle.board.proofs.Tests.{stepb-iff, amongb-iff}
 use Rattle.board.proofs.Numbered.{stands-iff, among-at, at-among}
 use Rattle.board.proofs.Lowest.{lowest-at, lowest-least, lowest-most}
 use Rattle.board.proofs.Walks.{soundness}
+use Rattle.board.proofs.Codes.{tables-not, walk-not}
 
 pub shows : (n seesA seesB : ℕ) (rules excuses : List ℕ) → Shows (boardOf n seesA seesB rules excuses)
 shows n seesA seesB rules excuses = record { inA = λ a l. row-below n seesA a; inB = λ a l. row-below n seesB a }
 
 -- outcomes of different codes differ
-codes-differ : (o p : Outcome) → (o .code ≡ p .code → ⊥) → o ≡ p → ⊥
+pub codes-differ : (o p : Outcome) → (o .code ≡ p .code → ⊥) → o ≡ p → ⊥
 codes-differ o p d e = d (ap (λ (x : Outcome). x .code) e)
 
-sheets-differ : (o p : Outcome) → (o .sheet ≡ p .sheet → ⊥) → o ≡ p → ⊥
+pub sheets-differ : (o p : Outcome) → (o .sheet ≡ p .sheet → ⊥) → o ≡ p → ⊥
 sheets-differ o p d e = d (ap (λ (x : Outcome). x .sheet) e)
 
 -- ---- tables
@@ -66,7 +68,7 @@ module _ (B : Board) (T : List ℕ) where
   fits-to e a l = lowest-least (faultAt B T) (B .combinations) a (past (decLt low (B .combinations)))
     where
       past : Dec (low < B .combinations) → a < low
-      past (yes h) = absurd (codes-differ (refusal 10 2 low) (success 20 0) (λ z. omega arith) (rw (lt-ltb low (B .combinations) h) at e))
+      past (yes h) = absurd (codes-differ (ruleBroken low (ruleAt B T low)) (success 20 0) (λ z. omega arith) (rw (lt-ltb low (B .combinations) h) at e))
       past (no h) = omega (arith, lowest-most (faultAt B T) (B .combinations))
 
   fits-from : Fits B T → judgeTables B T ≡ success 20 0
@@ -79,14 +81,6 @@ module _ (B : Board) (T : List ℕ) where
 
   pub judged-fits : (judgeTables B T ≡ success 20 0) ↔ Fits B T
   judged-fits = (fits-to, fits-from)
-
-  tables-not-21 : judgeTables B T ≡ success 21 0 → ⊥
-  unfolding judgeTables
-  tables-not-21 e = go (decLt low (B .combinations))
-    where
-      go : Dec (low < B .combinations) → ⊥
-      go (yes h) = codes-differ (refusal 10 2 low) (success 21 0) (λ z. omega arith) (rw (lt-ltb low (B .combinations) h) at e)
-      go (no h) = codes-differ (success 20 0) (success 21 0) (λ z. omega arith) (rw (le-ltb low (B .combinations) (omega arith)) at e)
 
 -- ---- walks
 
@@ -161,15 +155,6 @@ module _ (B : Board) (es : List Entry) (some : 0 < length es) where
   pub judged-stands : (judgeWalk B es ≡ success 21 0) ↔ Stands B es
   judged-stands = (stands-to, stands-from)
 
-walk-not-20 : (B : Board) (es : List Entry) → judgeWalk B es ≡ success 20 0 → ⊥
-unfolding judgeWalk
-walk-not-20 B es e = go (ltb (lowest (λ i. not (stepAt B es i)) (length es)) (length es)) (amongb (opposite (entry es 0 .says)) es) _ e
-  where
-    go : (b c : Bool) (m : ℕ) → pick b (refusal 12 2 m) (pick c (success 21 0) (refusal 13 2 0)) ≡ success 20 0 → ⊥
-    go true c m p = codes-differ (refusal 12 2 m) (success 20 0) (λ z. omega arith) p
-    go false true m p = codes-differ (success 21 0) (success 20 0) (λ z. omega arith) p
-    go false false m p = codes-differ (refusal 13 2 0) (success 20 0) (λ z. omega arith) p
-
 -- ---- sheets
 
 -- the answer is the tables sheet of a pair that fits the job's board
@@ -222,11 +207,11 @@ module _ (f : Form) (job answer : List ℕ) (bytes : Bytes answer) where
         pair = t .pair;
         fits = record { tables = joined-tables (jobBoard j) xs ys (t .pair); fits = judged-fits (jobBoard j) (xs ++ ys) .0 q };
       }
-  judge-20 j e (answered (walk es)) p q = absurd (walk-not-20 (jobBoard j) es q)
+  judge-20 j e (answered (walk es)) p q = absurd (walk-not (jobBoard j) es 20 (λ z. omega arith) (λ z. omega arith) (λ z. omega arith) (ap (λ (o : Outcome). o .code) q))
   judge-20 j e (unanswered w) p q = absurd (sheets-differ (refusedAnswer w) (success 20 0) (λ z. omega arith) q)
 
   judge-21 : (j : Job) → readJob f job ≡ accepted j → (v : AnswerVerdict) → verdictFor j ≡ v → judge (jobBoard j) v ≡ success 21 0 → StandsSheet f job answer
-  judge-21 j e (answered (tables xs ys)) p q = absurd (tables-not-21 (jobBoard j) (xs ++ ys) q)
+  judge-21 j e (answered (tables xs ys)) p q = absurd (tables-not (jobBoard j) (xs ++ ys) 21 (λ z. omega arith) (λ z. omega arith) (ap (λ (o : Outcome). o .code) q))
   judge-21 j e (answered (walk es)) p q =
       let t = walk-there _ _ _ answer es p in record {
         j = j;

@@ -28,8 +28,9 @@ use Rattle.answer.proofs.There.{tables-there, walk-there}
 use Rattle.board.specs.Board.{Board, atB}
 use Rattle.board.specs.Tables.{held}
 use Rattle.board.specs.JobBoard.{headBoard}
-use Rattle.board.specs.Check.{lowest, faultAt, tablesAt, judgeTables, judgeWalk, judgeSheet}
-use Rattle.board.specs.Places.{faultIn, walkIn, TablesIn, WalkIn}
+use Rattle.board.specs.Tests.{lowest}
+use Rattle.board.specs.Check.{faultAt, ruleAt, tablesAt, judgeTables, judgeWalk, judgeSheet}
+use Rattle.board.specs.Places.{rowA, rowB, faultIn, ruleIn, walkIn, TablesIn, WalkIn}
 use Rattle.board.proofs.Lowest.{lowest-same}
 use Rattle.board.proofs.Walking.{Placed, walk-in}
 
@@ -64,22 +65,32 @@ module _ (h : JobHead) (masks s : List ℕ) where
           bitsB = λ r l. rw (t .atB r l) (t .pair .bitsB r l);
         }
 
-    same-fault : (a : ℕ) → faultIn h masks s a ≡ faultAt (headBoard h masks) (xs ++ ys) a
-    same-fault a =
+    same-a : (a : ℕ) → rowA h s a ≡ held (xs ++ ys) (headBoard h masks .showA a)
+    same-a a =
         let t = tables-there _ _ _ s xs ys is in
         let row-a = row-below (h .wires) (h .«sees_a») a in
-        let row-b = row-below (h .wires) (h .«sees_b») a in
         let in-a : shown (h .wires) (h .«sees_a») a < length xs = omega (arith, t .pair .longA) in
-        ap₂ (headBoard h masks .breaks a)
-        (t .atA (shown (h .wires) (h .«sees_a») a) row-a ∙ sym (List·getD-append xs ys 0 (shown (h .wires) (h .«sees_a») a) in-a))
-        (t .atB (shown (h .wires) (h .«sees_b») a) row-b ∙ sym (getD-append-add xs ys (shown (h .wires) (h .«sees_b») a) 0)
-        ∙ ap (λ (n : ℕ). getD (xs ++ ys) (n + shown (h .wires) (h .«sees_b») a) 0) (t .pair .longA))
+        t .atA (shown (h .wires) (h .«sees_a») a) row-a ∙ sym (List·getD-append xs ys 0 (shown (h .wires) (h .«sees_a») a) in-a)
 
-    pub tables-judged : tablesAt (headBoard h masks) (lowest (faultIn h masks s) (2 ^ h .wires)) ≡ judgeSheet (headBoard h masks) s
+    same-b : (a : ℕ) → rowB h s a ≡ held (xs ++ ys) (atB (headBoard h masks) a)
+    same-b a =
+        let t = tables-there _ _ _ s xs ys is in
+        t .atB (shown (h .wires) (h .«sees_b») a) (row-below (h .wires) (h .«sees_b») a)
+        ∙ sym (getD-append-add xs ys (shown (h .wires) (h .«sees_b») a) 0)
+        ∙ ap (λ (n : ℕ). getD (xs ++ ys) (n + shown (h .wires) (h .«sees_b») a) 0) (t .pair .longA)
+
+    same-fault : (a : ℕ) → faultIn h masks s a ≡ faultAt (headBoard h masks) (xs ++ ys) a
+    same-fault a = ap₂ (headBoard h masks .breaks a) (same-a a) (same-b a)
+
+    same-rule : (a : ℕ) → ruleIn h masks s a ≡ ruleAt (headBoard h masks) (xs ++ ys) a
+    same-rule a = ap₂ (headBoard h masks .rule a) (same-a a) (same-b a)
+
+    pub tables-judged : tablesAt (headBoard h masks) (ruleIn h masks s) (lowest (faultIn h masks s) (2 ^ h .wires)) ≡ judgeSheet (headBoard h masks) s
     unfolding judgeSheet judgeTables
     tables-judged =
         rw is
-        (ap (tablesAt (headBoard h masks)) (lowest-same (faultIn h masks s) (faultAt (headBoard h masks) (xs ++ ys)) (2 ^ h .wires) (λ a l. same-fault a)))
+        (ap (tablesAt (headBoard h masks) (ruleIn h masks s)) (lowest-same (faultIn h masks s) (faultAt (headBoard h masks) (xs ++ ys)) (2 ^ h .wires) (λ a l. same-fault a))
+        ∙ ap (λ (rule : ℕ → ℕ). tablesAt (headBoard h masks) rule (lowest (faultAt (headBoard h masks) (xs ++ ys)) (2 ^ h .wires))) (λ i a. same-rule a i))
 
   module _ (es : List Entry) (is : verdict ≡ answered (walk es)) where
     placed : Placed s es

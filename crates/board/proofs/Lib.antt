@@ -4,10 +4,13 @@ pub mod Steps
 pub mod Walks
 pub mod Numbered
 pub mod Tests
+pub mod Tested
+pub mod Lowest
 pub mod Rules
 pub mod StepCases
-pub mod Lowest
 pub mod Walking
 pub mod Judging
 pub mod Accepting
+pub mod Codes
 pub mod Checked
+pub mod Named

@@ -1,17 +1,18 @@
 -- The lowest number that passes a test.
 --     lowest-at, lowest-least, lowest-most     it passes, none below it does, and it is at most n
+--     lowest-is                                a number that passes, with none below it that does, is the lowest
 --     lowest-same                              two tests that agree below n have the same
 --     Left                                     a search of n numbers has come to i: the lowest is the first from i on
 --     search-start, search-turn                it starts at 0; number i fails
 --     search-found, search-end                 number i passes; none is left
 -- Assumes nothing.
 use mathlib.Core.Path.{_≡_, refl, sym, ap, _∙_}
-use mathlib.Core.Bool.{Bool, true, false}
+use mathlib.Core.Bool.{Bool, true, false, false≢true}
 use mathlib.Core.Logic.{by-cases}
 use Prim.Native.Nat.{ℕ, zero, suc, _+_, _-_, _<_, _≤_}
-use native.Mathlib.Decide.{ℕ-discrete}
+use native.Mathlib.Decide.{decLt, ℕ-discrete}
 use native.Mathlib.Omega.{arith}
-use Rattle.board.specs.Check.{firstFrom, lowest}
+use Rattle.board.specs.Tests.{firstFrom, lowest}
 
 -- ---- one number more
 
@@ -79,6 +80,14 @@ module _ (p : ℕ → Bool) (n : ℕ) where
 
   pub lowest-most : lowest p n ≤ n
   lowest-most = omega (arith, first-most p 0 n)
+
+pub lowest-is : (p : ℕ → Bool) (n i : ℕ) → i < n → p i ≡ true → ((j : ℕ) → j < i → p j ≡ false) → i ≡ lowest p n
+lowest-is p n i l e none = go (decLt i (lowest p n)) (decLt (lowest p n) i)
+  where
+    go : Dec (i < lowest p n) → Dec (lowest p n < i) → i ≡ lowest p n
+    go (yes h) k = absurd (false≢true (sym (lowest-least p n i h) ∙ e))
+    go (no h) (yes k) = absurd (false≢true (sym (none (lowest p n) k) ∙ lowest-at p n (omega arith)))
+    go (no h) (no k) = omega arith
 
 pub lowest-same : (p q : ℕ → Bool) (n : ℕ) → ((i : ℕ) → i < n → p i ≡ q i) → lowest p n ≡ lowest q n
 lowest-same p q n h = first-same p q 0 n (λ j l g. h j (omega arith))

@@ -6,34 +6,37 @@
 --     excusesb-iff    an excuse's terms are all true
 --     excusedb-iff    a combination is excused by a list
 --     faultb-iff      some rule is broken where it counts
+--     counted-holds      where it counts and none is, each rule holds
+--     rule-among, rule-breaks, rule-least     the lowest broken rule is a rule, is broken, and each below it holds
+--     rule-is         a rule of which this is true is the lowest broken one
 --     front-faultb    the same of a list that has the rules and then the excuses at its front
 --     behind, behind-is, excuses-there      the slice of the masks behind the rules, where the excuses stand
 --     excused-more    if each excuse of a list contains all terms of some excuse of another, what the one excuses so does the other
---     holds-by        a rule holds exactly where it meets the set of the true terms
---     excused-by      a combination is excused exactly where that set contains an excuse
---     breaks-turn     rule i of those left holds: some rule is broken exactly where one of the rest is
---     breaks-found    rule i of those left does not hold: some rule is broken
---     breaks-end      none is left: no rule is broken
+--     excused-by      a combination is excused exactly where the set of the true terms contains an excuse
+--     first-breaks, first-rule     the first rule that no true term is in: some rule is broken, and it is the lowest
+--     first-none      there is no such rule: none is broken
 -- Assumes nothing.
 use mathlib.Core.Path.{_≡_, refl, sym, ap, subst, _∙_}
 use mathlib.Core.Bool.{Bool, true, false, not, _&&_, _||_, false≢true, and-eq-true-iff}
 use mathlib.Core.List.{List, [], _∷_}
 use mathlib.Core.Logic.{_↔_, inl, inr, ⊎-elim, by-cases}
 use Prim.Native.Nat.{ℕ, zero, suc, _+_, _*_, _-_, _/_, _%_, _^_, _<_, _≤_}
-use native.Mathlib.Decide.{ℕ-discrete}
+use native.Mathlib.Decide.{decLt, ℕ-discrete}
 use native.Mathlib.Omega.{arith}
 use lib.Dec.{eqb}
 use lib.ListN.{length, getD, take, drop, length-drop}
 use lib.Seq.{take-all, getD-take, length-take-le}
-use borrow.Author.Tests.{eqb-true, eq-eqb, ne-eqb, not-true}
+use borrow.Author.Tests.{eqb-true, eq-eqb, ne-eqb, not-true, not-false}
 use Rattle.wires.specs.Wires.{wire}
-use Rattle.wires.specs.Terms.{value, IsTrue, Holds, Breaks, Fault, Truths, Meets, Excuses, Excused, Contains, someWithin}
+use Rattle.wires.specs.Terms.{value, IsTrue, Holds, Breaks, Fault, Truths, FirstBroken, Excuses, Excused, Contains, someWithin}
 use Rattle.wires.proofs.Digits.{low-digit}
 use Rattle.wires.proofs.Terms.{holds}
-use Rattle.wires.proofs.Sets.{or-cases, or-left, or-right, same-test, from-here, none-left, some-to, some-from, excuse-within}
+use Rattle.wires.proofs.Sets.{or-cases, or-left, or-right, same-test, some-to, some-from, excuse-within}
 use Rattle.sheet.specs.declared.JobHead.{JobHead}
-use Rattle.board.specs.JobBoard.{trueb, anyBelow, holdsb, breaksb, excusesb, excusedb, faultb, Sized}
+use Rattle.board.specs.JobBoard.{trueb, anyBelow, holdsb, breaksb, brokenRule, excusesb, excusedb, faultb, Sized}
+use Rattle.board.specs.Tests.{lowest}
 use Rattle.board.proofs.Tests.{and-both, all-below}
+use Rattle.board.proofs.Lowest.{lowest-at, lowest-least, lowest-is}
 
 -- ---- some number below k passes
 
@@ -82,7 +85,7 @@ holdsb-iff n a x y rule = (
 )
 
 -- a test that is not true is false
-fails : (t : Bool) → (t ≡ true → ⊥) → t ≡ false
+pub fails : (t : Bool) → (t ≡ true → ⊥) → t ≡ false
 fails true h = absurd (h refl)
 fails false h = refl
 
@@ -163,6 +166,47 @@ faultb-iff n rules excuses a x y = (
   λ f. and-both (ap not (fails (excusedb n excuses a) (λ e. f .1 (excused-to n excuses a e)))) (breaksb-iff n rules a x y .1 (f .0)),
 )
 
+-- where it counts and none is broken, each rule holds
+pub counted-holds : (n : ℕ) (rules excuses : List ℕ) (a x y : ℕ) → faultb n rules excuses a x y ≡ false → (Excused n excuses (length excuses) a → ⊥)
+    → (i : ℕ) → i < length rules → Holds n a x y (getD rules i 0)
+counted-holds n rules excuses a x y e free i l = go (holdsb n a x y (getD rules i 0)) refl
+  where
+    go : (b : Bool) → holdsb n a x y (getD rules i 0) ≡ b → Holds n a x y (getD rules i 0)
+    go true q = holdsb-iff n a x y (getD rules i 0) .0 q
+    go false q =
+        let broken : Breaks n a x y (getD rules i 0) = λ h. false≢true (sym q ∙ holdsb-iff n a x y (getD rules i 0) .1 h) in
+        absurd (false≢true (sym e ∙ faultb-iff n rules excuses a x y .1 ((i, l, broken), free)))
+
+-- ---- the lowest rule that is broken
+
+module _ (n : ℕ) (rules : List ℕ) (a x y : ℕ) where
+  abbrev fails-at : ℕ → Bool
+  fails-at i = not (holdsb n a x y (getD rules i 0))
+
+  pub rule-least : (i : ℕ) → i < brokenRule n rules a x y → Holds n a x y (getD rules i 0)
+  unfolding brokenRule
+  rule-least i l = holdsb-iff n a x y (getD rules i 0) .0 (not-false (holdsb n a x y (getD rules i 0)) (lowest-least fails-at (length rules) i l))
+
+  pub rule-among : Fault n rules (length rules) a x y → brokenRule n rules a x y < length rules
+  rule-among f = go (decLt (brokenRule n rules a x y) (length rules))
+    where
+      go : Dec (brokenRule n rules a x y < length rules) → brokenRule n rules a x y < length rules
+      go (yes l) = l
+      go (no h) = absurd (f .2 (rule-least (f .0) (omega (arith, f .1))))
+
+  pub rule-breaks : brokenRule n rules a x y < length rules → Breaks n a x y (getD rules (brokenRule n rules a x y) 0)
+  unfolding brokenRule
+  rule-breaks l h =
+      false≢true (sym (not-true (holdsb n a x y (getD rules (lowest fails-at (length rules)) 0)) (lowest-at fails-at (length rules) l))
+      ∙ holdsb-iff n a x y (getD rules (lowest fails-at (length rules)) 0) .1 h)
+
+  pub rule-is : (r : ℕ) → r < length rules → Breaks n a x y (getD rules r 0) → ((i : ℕ) → i < r → Holds n a x y (getD rules i 0)) → r ≡ brokenRule n rules a x y
+  unfolding brokenRule
+  rule-is r l broken before =
+      lowest-is fails-at (length rules) r l
+      (ap not (fails (holdsb n a x y (getD rules r 0)) (λ e. broken (holdsb-iff n a x y (getD rules r 0) .0 e))))
+      (λ i h. ap not (holdsb-iff n a x y (getD rules i 0) .1 (before i h)))
+
 -- only the first `count` of a list are looked at
 front-some : (P : ℕ → Type 0) (s : List ℕ) (count : ℕ) → count ≤ length s
     → ((i : ℕ) × (i < length (take count s)) × P (getD (take count s) i 0)) ↔ ((i : ℕ) × (i < count) × P (getD s i 0))
@@ -192,15 +236,7 @@ behind-is h masks = take-all (length masks - h .rules) (drop (h .rules) masks) (
 pub excuses-there : (h : JobHead) (masks : List ℕ) → Sized h masks → h .excuses ≤ length (behind h masks)
 excuses-there h masks z = rw (behind-is h masks) (omega (arith, z .count, length-drop (h .rules) masks))
 
--- ---- rules one by one, each held against the set of the true terms
-
-pub holds-by : (n a x y rule set : ℕ) (r : Bool) → Truths n a x y set → (r ≡ true) ↔ Meets rule set → holdsb n a x y rule ≡ r
-holds-by n a x y rule set r t m =
-    same-test (holdsb n a x y rule) r (λ e. m .1 (of-terms .1 (holdsb-iff n a x y rule .0 e)))
-    (λ e. holdsb-iff n a x y rule .1 (of-terms .0 (m .0 e)))
-  where
-    of-terms : Meets rule set ↔ Holds n a x y rule
-    of-terms = holds n a x y rule set t
+-- ---- the excuses and the rules, held against the set of the true terms
 
 pub excused-by : (n a x y : ℕ) (excuses : List ℕ) (set : ℕ) → Truths n a x y set → ((i : ℕ) → i < length excuses → getD excuses i 0 < 2 ^ (2 * n))
     → someWithin excuses set ≡ excusedb n excuses a
@@ -209,19 +245,26 @@ excused-by n a x y excuses set t small =
     (λ e. let w = some-to excuses set e in excused-from n excuses a (w .0) (w .1) (excuse-within n a x y (getD excuses (w .0) 0) set t (small (w .0) (w .1)) .0 (w .2)))
     (λ e. let w = excused-to n excuses a e in some-from excuses set (w .0) (w .1) (excuse-within n a x y (getD excuses (w .0) 0) set t (small (w .0) (w .1)) .1 (w .2)))
 
--- the rules from rule i on, of the first count
-module _ (n a x y : ℕ) (rules : List ℕ) (count i : ℕ) (long : count ≤ length rules) (l : i < count) where
-  here : breaksb n (drop i (take count rules)) a x y
-      ≡ not (holdsb n a x y (getD rules i 0)) || breaksb n (drop (i + 1) (take count rules)) a x y
-  unfolding breaksb
-  here = ap (λ (rs : List ℕ). breaksb n rs a x y) (from-here rules count i long l)
+-- r is the first of `count` rules that no true term is in
+module _ (n a x y : ℕ) (masks : List ℕ) (count set r : ℕ) (t : Truths n a x y set) (f : FirstBroken masks count set r) (long : count ≤ length masks) where
+  abbrev rules : List ℕ
+  rules = take count masks
 
-  pub breaks-turn : holdsb n a x y (getD rules i 0) ≡ true → breaksb n (drop i (take count rules)) a x y ≡ breaksb n (drop (i + 1) (take count rules)) a x y
-  breaks-turn e = here ∙ rw e
+  before : (i : ℕ) → i < r → Holds n a x y (getD rules i 0)
+  before i l =
+      let few : i < count = omega (arith, f .most) in
+      rw (getD-take count masks i 0 few) (holds n a x y (getD masks i 0) set t .0 (f .before i l))
 
-  pub breaks-found : holdsb n a x y (getD rules i 0) ≡ false → breaksb n (drop i (take count rules)) a x y ≡ true
-  breaks-found e = here ∙ rw e
+  there : r < count → Breaks n a x y (getD rules r 0)
+  there l h = f .broken l (holds n a x y (getD masks r 0) set t .1 (rw (getD-take count masks r 0 l) at h))
 
-pub breaks-end : (n a x y : ℕ) (rules : List ℕ) (count : ℕ) → count ≤ length rules → breaksb n (drop count (take count rules)) a x y ≡ false
-unfolding breaksb
-breaks-end n a x y rules count long = rw (none-left rules count long)
+  pub first-breaks : r < count → breaksb n rules a x y ≡ true
+  first-breaks l = fault-from n rules a x y r (omega (arith, length-take-le count masks long)) (there l)
+
+  pub first-rule : r < count → r ≡ brokenRule n rules a x y
+  first-rule l = rule-is n rules a x y r (omega (arith, length-take-le count masks long)) (there l) before
+
+  pub first-none : count ≤ r → breaksb n rules a x y ≡ false
+  first-none l =
+      fails (breaksb n rules a x y)
+      (λ e. let b = fault-to n rules a x y e in b .2 (before (b .0) (omega (arith, b .1, length-take-le count masks long))))

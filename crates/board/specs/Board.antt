@@ -1,5 +1,5 @@
--- A board without its bits: how many rows each cell has, which row a combination shows to each cell, and where some rule is broken.
---     Board       the numbers and the two functions
+-- A board without its bits: how many rows each cell has, which row a combination shows to each cell, and where some rule is broken, and which.
+--     Board       the numbers and the four functions
 --     Shows       each combination shows a row that the cell has
 --     row, value, opposite   claim 2r says that row r holds 0, claim 2r+1 that it holds 1
 -- Assumes nothing.
@@ -18,6 +18,8 @@ pub record Board : Type 0 where
   pub showB : ℕ → ℕ
   -- combination, value of A, value of B: some rule is broken there
   pub breaks : ℕ → ℕ → ℕ → Bool
+  -- and there, the number of the lowest such rule, from 0
+  pub rule : ℕ → ℕ → ℕ → ℕ
 
 -- R, the rows of both cells
 abbrev pub rows : Board → ℕ

@@ -1,17 +1,16 @@
--- The checker's outcome, for either form, every job sheet and every answer sheet (document 01, "Outcome numbers").
---     lowest          the lowest number that passes a test
---     judgeTables     10 at the lowest combination where the tables break a rule, else 20
+-- The checker's outcome, for either form, every job sheet and every answer sheet (document 01, "Outcome numbers"; document 02, request 4).
+--     judgeTables     10 at the lowest combination where the tables break a rule, with the lowest rule broken there, else 20
 --     judgeWalk       12 at the lowest entry whose step does not hold, then 13, else 21
 --     checkOutcome    the outcome
 -- Assumes nothing: these are definitions.
 use mathlib.Core.Bool.{Bool, not}
 use mathlib.Core.List.{List, _++_}
-use Prim.Native.Nat.{ℕ, zero, suc, _+_}
+use Prim.Native.Nat.{ℕ, _+_}
 use lib.Dec.{ltb, eqb}
 use lib.ListN.{length}
 use Rattle.steps.specs.declared.Outcome.{Outcome}
 use Rattle.steps.specs.Step.{pick}
-use Rattle.steps.specs.Outcome.{success, refusal, refusedJob, refusedAnswer}
+use Rattle.steps.specs.Outcome.{success, refusal, ruleBroken, refusedJob, refusedAnswer}
 use Rattle.sheet.specs.declared.Form.{Form}
 use Rattle.sheet.specs.Job.{Verdict, accepted, rejected}
 use Rattle.sheet.specs.JobSheet.{readJob}
@@ -21,29 +20,24 @@ use Rattle.answer.specs.AnswerSheet.{readAnswer}
 use Rattle.board.specs.Board.{Board, atB, opposite}
 use Rattle.board.specs.Tables.{held}
 use Rattle.board.specs.Walk.{entry}
-use Rattle.board.specs.Tests.{stepb, amongb}
+use Rattle.board.specs.Tests.{lowest, stepb, amongb}
 use Rattle.board.specs.JobBoard.{jobBoard}
-
--- the first of k numbers from i on that passes, or the number after them
-unfoldable pub firstFrom : (ℕ → Bool) → (i k : ℕ) → ℕ
-firstFrom p i zero = i
-firstFrom p i (suc k) = pick (p i) i (firstFrom p (i + 1) k)
-
--- the lowest number below n that passes, or n
-abbrev pub lowest : (ℕ → Bool) → ℕ → ℕ
-lowest p n = firstFrom p 0 n
 
 module _ (B : Board) where
   -- with A and B set to the rows that a shows, some rule is broken
   abbrev pub faultAt : List ℕ → ℕ → Bool
   faultAt T a = B .breaks a (held T (B .showA a)) (held T (atB B a))
 
-  -- 10: tables break a rule, at the lowest such combination. 20: tables
-  abbrev pub tablesAt : ℕ → Outcome
-  tablesAt m = pick (ltb m (B .combinations)) (refusal 10 2 m) (success 20 0)
+  -- the lowest rule broken then
+  abbrev pub ruleAt : List ℕ → ℕ → ℕ
+  ruleAt T a = B .rule a (held T (B .showA a)) (held T (atB B a))
+
+  -- 10: tables break a rule, at the lowest such combination; the outcome carries the lowest rule broken there. 20: tables
+  abbrev pub tablesAt : (rule : ℕ → ℕ) → ℕ → Outcome
+  tablesAt rule m = pick (ltb m (B .combinations)) (ruleBroken m (rule m)) (success 20 0)
 
   unfoldable pub judgeTables : List ℕ → Outcome
-  judgeTables T = tablesAt (lowest (faultAt T) (B .combinations))
+  judgeTables T = tablesAt (ruleAt T) (lowest (faultAt T) (B .combinations))
 
   -- the entry after entry i; after the last comes the first
   abbrev pub nextOf : List Entry → ℕ → ℕ

@@ -2,6 +2,7 @@
 --     trueb, holdsb, breaksb     a term is true, a rule holds, some rule is broken, as tests that compute
 --     excusesb, excusedb         an excuse's terms are all true, a combination is excused
 --     faultb                     some rule is broken where it counts
+--     brokenRule                 the lowest rule that is broken (document 02, request 4)
 --     boardOf                    the board of n wires, two seen sets, a list of rules and a list of excuses
 --     jobBoard                   the board of a job
 --     headBoard, Sized           the board of a job in numbers, and what is known of these
@@ -18,7 +19,7 @@ use Rattle.sheet.specs.declared.JobHead.{JobHead}
 use Rattle.sheet.specs.Job.{Job}
 use Rattle.sheet.specs.JobSheet.{wireLimit, seenLimit, wireTermsOf}
 use Rattle.board.specs.Board.{Board}
-use Rattle.board.specs.Tests.{allBelow}
+use Rattle.board.specs.Tests.{allBelow, lowest}
 
 -- Term 2v is plain and 2v+1 negated: it is true where its variable has the value 1 or 0
 abbrev pub trueb : (n a x y t : ℕ) → Bool
@@ -37,6 +38,10 @@ holdsb n a x y rule = anyBelow (λ t. eqb (wire rule t) 1 && trueb n a x y t) (2
 unfoldable pub breaksb : (n : ℕ) → List ℕ → (a x y : ℕ) → Bool
 breaksb n [] a x y = false
 breaksb n (rule ∷ rules) a x y = not (holdsb n a x y rule) || breaksb n rules a x y
+
+-- the lowest-numbered rule that is broken there, from 0, or the number of rules where none is
+unfoldable pub brokenRule : (n : ℕ) → List ℕ → (a x y : ℕ) → ℕ
+brokenRule n rules a x y = lowest (λ i. not (holdsb n a x y (getD rules i 0))) (length rules)
 
 -- all terms of the excuse are true. They are terms of wires, below 2n, so the cells' values don't matter
 unfoldable pub excusesb : (n a excuse : ℕ) → Bool
@@ -60,6 +65,7 @@ boardOf n seesA seesB rules excuses =
       showA = shown n seesA;
       showB = shown n seesB;
       breaks = faultb n rules excuses;
+      rule = brokenRule n rules;
     }
 
 abbrev pub jobBoard : Job → Board

@@ -1,7 +1,8 @@
 -- Tables and walks as they stand in an answer sheet: which bytes the checker looks at.
 --     wordAt                     two bytes, low byte first
 --     claimIn, combinationIn     a walk's entry i
---     faultIn                    with A and B set to the table bytes of the rows that a combination shows, some rule is broken
+--     rowA, rowB                 the table bytes of the rows that a combination shows to A and to B
+--     testedIn                   the test of one combination, with A and B set to these: some rule is broken, and the lowest
 --     stepIn                     the step of entry i holds
 --     walkIn                     the judgement of a walk of k entries
 --     TablesIn, WalkIn           what is known of a sheet of tables, and of a walk of k entries
@@ -15,12 +16,13 @@ use lib.ListN.{length, getD}
 use Rattle.steps.specs.Step.{pick}
 use Rattle.wires.specs.Wires.{shown}
 use Rattle.sheet.specs.declared.JobHead.{JobHead}
-use Rattle.board.specs.Tests.{stepb}
+use Rattle.board.specs.Tests.{lowest, stepb}
 use Rattle.steps.specs.declared.Outcome.{Outcome}
 use Rattle.steps.specs.Outcome.{success, refusal}
 use Rattle.board.specs.Board.{opposite}
 use Rattle.board.specs.JobBoard.{anyBelow, headBoard}
-use Rattle.board.specs.Check.{lowest}
+use Rattle.board.specs.declared.Broken.{Broken}
+use Rattle.board.specs.Tested.{tested}
 
 abbrev pub wordAt : List ℕ → ℕ → ℕ
 wordAt s at = getD s at 0 + 256 * getD s (at + 1) 0
@@ -31,11 +33,20 @@ claimIn s i = wordAt s (6 + 4 * i)
 abbrev pub combinationIn : List ℕ → ℕ → ℕ
 combinationIn s i = wordAt s (8 + 4 * i)
 
+abbrev pub rowA : JobHead → (s : List ℕ) → ℕ → ℕ
+rowA h s a = getD s (2 + shown (h .wires) (h .«sees_a») a) 0
+
+abbrev pub rowB : JobHead → (s : List ℕ) → ℕ → ℕ
+rowB h s a = getD s (4 + 2 ^ ones (h .«sees_a») + shown (h .wires) (h .«sees_b») a) 0
+
 abbrev pub faultIn : JobHead → (masks s : List ℕ) → ℕ → Bool
-faultIn h masks s a =
-    headBoard h masks .breaks a
-    (getD s (2 + shown (h .wires) (h .«sees_a») a) 0)
-    (getD s (4 + 2 ^ ones (h .«sees_a») + shown (h .wires) (h .«sees_b») a) 0)
+faultIn h masks s a = headBoard h masks .breaks a (rowA h s a) (rowB h s a)
+
+abbrev pub ruleIn : JobHead → (masks s : List ℕ) → ℕ → ℕ
+ruleIn h masks s a = headBoard h masks .rule a (rowA h s a) (rowB h s a)
+
+abbrev pub testedIn : JobHead → (masks s : List ℕ) → ℕ → Broken
+testedIn h masks s a = tested (headBoard h masks) a (rowA h s a) (rowB h s a)
 
 -- the entry after entry i of k; after the last comes the first
 abbrev pub afterOf : (k i : ℕ) → ℕ

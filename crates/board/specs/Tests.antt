@@ -1,9 +1,10 @@
--- The definitions of fits, step and stands as tests that compute.
+-- The definitions of fits, step and stands as tests that compute, and the lowest number that passes a test.
 -- Assumes nothing.
 use mathlib.Core.Bool.{Bool, true, false, not, _&&_, _||_}
 use mathlib.Core.List.{List, [], _∷_}
-use Prim.Native.Nat.{ℕ, zero, suc, _-_}
+use Prim.Native.Nat.{ℕ, zero, suc, _+_, _-_}
 use lib.Dec.{eqb, ltb}
+use Rattle.steps.specs.Step.{pick}
 use Rattle.board.specs.Board.{Board, atB, row, value, opposite}
 use Rattle.board.specs.Tables.{held}
 use Rattle.answer.specs.Answer.{Entry}
@@ -13,6 +14,15 @@ use Rattle.board.specs.Walk.{start}
 unfoldable pub allBelow : (ℕ → Bool) → ℕ → Bool
 allBelow p zero = true
 allBelow p (suc n) = allBelow p n && p n
+
+-- the first of k numbers from i on that passes, or the number after them
+unfoldable pub firstFrom : (ℕ → Bool) → (i k : ℕ) → ℕ
+firstFrom p i zero = i
+firstFrom p i (suc k) = pick (p i) i (firstFrom p (i + 1) k)
+
+-- the lowest number below n that passes, or n
+abbrev pub lowest : (ℕ → Bool) → ℕ → ℕ
+lowest p n = firstFrom p 0 n
 
 unfoldable pub amongb : ℕ → List Entry → Bool
 amongb c [] = false

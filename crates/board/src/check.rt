@@ -1,5 +1,6 @@
 // The checker. It reads the job and the answer, and judges the tables or the walk where they stand in the sheet.
 // Leans on the test of one combination, and on no table.
+use crate::Broken;
 use crate::step_holds;
 use crate::test;
 use answer::AnswerRead;
@@ -12,6 +13,7 @@ use steps::Refusal;
 use steps::refused;
 use steps::refused_answer;
 use steps::refused_job;
+use steps::rule_broken;
 use steps::succeeded;
 use wires::Claim;
 use wires::Combination;
@@ -22,50 +24,38 @@ ghost use mathlib.Core.Bool.{not};
 ghost use Prim.Native.Nat.{_+_, _*_, _^_, _<_, _≤_};
 ghost use lib.ListN.{length};
 ghost use Rattle.board.specs.JobBoard.{anyBelow, headBoard, Sized};
-ghost use Rattle.board.specs.Places.{wordAt, claimIn, combinationIn, faultIn, stepIn, opposedIn, walkIn, TablesIn, WalkIn};
-ghost use Rattle.board.specs.Check.{lowest, tablesAt, judgeSheet, checkOutcome};
+ghost use Rattle.board.specs.Places.{wordAt, claimIn, combinationIn, faultIn, ruleIn, testedIn, stepIn, opposedIn, walkIn, TablesIn, WalkIn};
+ghost use Rattle.board.specs.Check.{tablesAt, judgeSheet, checkOutcome};
+ghost use Rattle.board.specs.Tests.{lowest};
 
-// With A and B set to the table entries of the rows that `a` shows, is some rule broken?
-fn fault_at(h: JobHead, masks: &[u32], answer: &[u8], a: Combination) -> bool
+// With A and B set to the table entries of the rows that `a` shows, which rule is broken?
+fn fault_at(h: JobHead, masks: &[u32], answer: &[u8], a: Combination) -> Broken
     requires { ⌜ Sized h (now masks) ⌝ }
     requires { ⌜ TablesIn h (now answer) ⌝ }
     requires { ⌜ a .0 < 2 ^ h .wires ⌝ }
-    ensures { λ r. ⌜ r ≡ faultIn h (now (masks .entry)) (now (answer .entry)) (a .0) ⌝ }
+    ensures { λ r. ⌜ r ≡ testedIn h (now (masks .entry)) (now (answer .entry)) (a .0) ⌝ }
 {
     let at_a = 2 + row_shown(h.sees_a, a.0 as u32) as usize;
     let at_b = 4 + row_count(h.sees_a) + row_shown(h.sees_b, a.0 as u32) as usize;
     test(h, masks, a, answer[at_a] as u32, answer[at_b] as u32)
 }
 
-// The lowest combination at which the tables break a rule, or the number of combinations where they break none.
-fn lowest_fault(h: JobHead, masks: &[u32], answer: &[u8]) -> u32
+// 10 at the lowest combination where the tables break a rule, with the lowest rule broken there, or 20.
+fn judge_tables(h: JobHead, masks: &[u32], answer: &[u8]) -> Outcome
     requires { ⌜ Sized h (now masks) ⌝ }
     requires { ⌜ TablesIn h (now answer) ⌝ }
-    ensures { λ r. ⌜ r ≡ lowest (faultIn h (now (masks .entry)) (now (answer .entry))) (2 ^ h .wires) ⌝ }
+    ensures { λ r. ⌜ r ≡ tablesAt (headBoard h (now (masks .entry))) (ruleIn h (now (masks .entry)) (now (answer .entry))) (lowest (faultIn h (now (masks .entry)) (now (answer .entry))) (2 ^ h .wires)) ⌝ }
 {
     let combinations: u32 = 1 << h.wires;
     let mut a: u32 = 0;
     while a < combinations {
-        if fault_at(h, masks, answer, Combination(a as u16)) {
-            return a;
+        let fault = fault_at(h, masks, answer, Combination(a as u16));
+        if let Broken::Rule(rule) = fault {
+            return rule_broken(a as usize, rule);
         }
         a += 1;
     }
-    a
-}
-
-// 10 at the lowest combination where the tables break a rule, or 20.
-fn judge_tables(h: JobHead, masks: &[u32], answer: &[u8]) -> Outcome
-    requires { ⌜ Sized h (now masks) ⌝ }
-    requires { ⌜ TablesIn h (now answer) ⌝ }
-    ensures { λ r. ⌜ r ≡ tablesAt (headBoard h (now (masks .entry))) (lowest (faultIn h (now (masks .entry)) (now (answer .entry))) (2 ^ h .wires)) ⌝ }
-{
-    let lowest = lowest_fault(h, masks, answer);
-    if lowest < 1 << h.wires {
-        refused(10, 2, lowest as usize)
-    } else {
-        succeeded(20, 0)
-    }
+    succeeded(20, 0)
 }
 
 // Two bytes of a sheet, low byte first.

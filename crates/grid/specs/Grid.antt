@@ -58,7 +58,7 @@ pub record Sound (g : Grid) : Type 0 where
   pub is-a : (a : ℕ) → a < g .shape .combinations → shown-a g a ≡ shown (g .shape .wires) (g .shape .«sees_a») a
   pub is-b : (a : ℕ) → a < g .shape .combinations → shown-b g a ≡ shown (g .shape .wires) (g .shape .«sees_b») a
 
--- the bit 2x + y of a combination's faults says whether some rule is broken there with A at x and B at y
+-- the bit 2x + y of a combination's faults says whether some rule is broken there with A at x and B at y, and not which
 abbrev pub gridBoard : Grid → Board
 gridBoard g =
     record {
@@ -68,4 +68,5 @@ gridBoard g =
       showA = shown-a g;
       showB = shown-b g;
       breaks = λ a x y. eqb (bit (fault g a) (2 * x + y)) 1;
+      rule = λ a x y. 0;
     }

@@ -1,12 +1,13 @@
--- Packing loses nothing, for every outcome that the library gives.
---     unpack-pack    an outcome of small numbers is found again in its number
+-- Packing loses nothing that is handed over, for every outcome that the library gives.
+--     unpack-pack    what is handed over of an outcome of small numbers is found again in its number
+--     plain-found    and that is all of it where the rule is 0
 --     read-packs     each outcome of the reader has small numbers
 --     read-found     so it is found again
 --     write-packs, write-found       the same for the writer
---     check-packs, check-found       and for the checker
 --     solve-packs, solve-found       and for the solver
---     widen-packs, widen-found       and for the widener
 --     move-packs, move-found         and for the mover
+--     check-packs, check-found       for the checker, what is handed over is found again
+--     widen-packs, widen-found       and for the widener
 -- Assumes nothing.
 use mathlib.Core.Path.{_≡_, refl, sym, ap, subst, _∙_}
 use mathlib.Core.Bool.{Bool, true, false, not}
@@ -19,14 +20,13 @@ use lib.ListN.{length, getD, take}
 use lib.Seq.{length-take-le}
 use lib.Pow.{pow-mono}
 use Rattle.steps.specs.declared.Refusal.{Refusal}
-use Rattle.steps.specs.declared.Refusal.the-variants.{Ends, TooMany, NotRising, TooHigh, LeftOver, OtherKind, NotABit, OutOfRange}
 use Rattle.steps.specs.declared.Outcome.{Outcome}
 use Rattle.sheet.specs.declared.Form.{Form}
 use Rattle.sheet.specs.declared.Form.the-variants.{One, Two}
 use Rattle.sheet.specs.Job.{Job, Verdict, accepted, rejected}
 use Rattle.steps.specs.Step.{pick}
-use Rattle.steps.specs.Outcome.{codeOf, answerCodeOf, placeOf, success, refusal, refusedJob, Ending, refusing, writing}
-use Rattle.steps.proofs.Codes.{code-bounds}
+use Rattle.steps.specs.Outcome.{codeOf, answerCodeOf, placeOf, success, refusal, ruleBroken, refusedJob, Ending, refusing, writing}
+use Rattle.steps.proofs.Codes.{code-bounds, answer-code-bounds}
 use Rattle.sheet.specs.JobSheet.{readJob, outcomeOf, readOutcome}
 use Rattle.sheet.proofs.Length.{place-small, accepted-short}
 use Rattle.sheet.proofs.Forms.{form-two}
@@ -45,9 +45,9 @@ use Rattle.writer.specs.Writing.{judge as judgeJob, outcomeOf as outcomeWritten
 use Rattle.writer.proofs.Small.{Small, judge-small, sheet-small}
 use Rattle.board.specs.Board.{Board, opposite}
 use Rattle.board.specs.Walk.{entry}
-use Rattle.board.specs.Tests.{amongb}
+use Rattle.board.specs.Tests.{lowest, amongb}
 use Rattle.board.specs.JobBoard.{jobBoard}
-use Rattle.board.specs.Check.{lowest, faultAt, stepAt, tablesAt, walkAt, judgeTables, judgeWalk, judge, judgeSheet, afterJob, checkOutcome}
+use Rattle.board.specs.Check.{faultAt, ruleAt, stepAt, tablesAt, walkAt, judgeTables, judgeWalk, judge, judgeSheet, afterJob, checkOutcome}
 use Rattle.answer.specs.Written.{two, tablesSheet, walkSheet}
 use Rattle.answer.proofs.Sheets.{tables-length, walk-length}
 use Rattle.solver.specs.Solved.{SolvedOn, Solved, refused, noRoom, solved}
@@ -58,7 +58,8 @@ use Rattle.widener.specs.Widened.{fitting, judged, withP, withNone, widened}
 use Rattle.widener.proofs.Tabling.{tabled-length}
 use Rattle.mover.specs.Moved.{excusesAt, toTwo, without, toOne, put, ending, movedTo, moving}
 use Rattle.mover.proofs.Front.{inside}
-use Rattle.ormsvelg.specs.Packed.{pack, unpack, Packs}
+use Rattle.ormsvelg.specs.Packed.{pack, unpack, handed, Packs}
+use Rattle.ormsvelg.proofs.Plain.{read-rule, write-rule, solve-rule, move-rule}
 
 module _ (c s p w : ℕ) (hc : c < 2 ^ 8) (hs : s < 2 ^ 8) (hp : p < 2 ^ 24) where
   abbrev number : ℕ
@@ -76,14 +77,18 @@ module _ (c s p w : ℕ) (hc : c < 2 ^ 8) (hs : s < 2 ^ 8) (hp : p < 2 ^ 24) whe
   written-in : number / 2 ^ 40 ≡ w
   written-in = omega arith
 
-pub unpack-pack : (o : Outcome) → Packs o → unpack (pack o) ≡ o
+pub unpack-pack : (o : Outcome) → Packs o → unpack (pack o) ≡ handed o
 unpack-pack o h = λ i.
     record {
       code = code-in (o .code) (o .sheet) (o .place) (o .written) (h .code) (h .sheet) (h .place) i;
       sheet = sheet-in (o .code) (o .sheet) (o .place) (o .written) (h .code) (h .sheet) (h .place) i;
       place = place-in (o .code) (o .sheet) (o .place) (o .written) (h .code) (h .sheet) (h .place) i;
       written = written-in (o .code) (o .sheet) (o .place) (o .written) (h .code) (h .sheet) (h .place) i;
+      rule = 0;
     }
+
+pub plain-found : (o : Outcome) → Packs o → o .rule ≡ 0 → unpack (pack o) ≡ o
+plain-found o h e = unpack-pack o h ∙ (λ i. record { code = o .code; sheet = o .sheet; place = o .place; written = o .written; rule = sym e i })
 
 code-small : (w : Refusal) → codeOf w < 2 ^ 8
 code-small w = omega (arith, code-bounds w)
@@ -112,29 +117,19 @@ unfolding readOutcome
 read-packs f s = verdict-packs f s (readJob f s) refl
 
 pub read-found : (f : Form) (s : List ℕ) → unpack (pack (readOutcome f s)) ≡ readOutcome f s
-read-found f s = unpack-pack (readOutcome f s) (read-packs f s)
+read-found f s = plain-found (readOutcome f s) (read-packs f s) (read-rule f s)
 
 -- ---- the checker
-
-answer-code-small : (w : Refusal) → answerCodeOf w < 2 ^ 8
-answer-code-small (Ends p) = omega arith
-answer-code-small (TooMany p) = omega arith
-answer-code-small (NotRising p) = omega arith
-answer-code-small (TooHigh p) = omega arith
-answer-code-small (LeftOver p) = omega arith
-answer-code-small (OtherKind p) = omega arith
-answer-code-small (NotABit p) = omega arith
-answer-code-small (OutOfRange p) = omega arith
 
 pick-packs : (b : Bool) (o p : Outcome) → (b ≡ true → Packs o) → Packs p → Packs (pick b o p)
 pick-packs true o p f g = f refl
 pick-packs false o p f g = g
 
 module _ (B : Board) (few : B .combinations ≤ 2 ^ 12) (few-a : B .rowsA ≤ 256) (few-b : B .rowsB ≤ 256) (s : List ℕ) where
-  tables-packs : (m : ℕ) → Packs (tablesAt B m)
-  tables-packs m =
-      pick-packs (ltb m (B .combinations)) (refusal 10 2 m) (success 20 0)
-      (λ e. refusal-packs 10 2 m (omega arith) (omega arith) (omega (arith, ltb-true m (B .combinations) e)))
+  tables-packs : (rule : ℕ → ℕ) (m : ℕ) → Packs (tablesAt B rule m)
+  tables-packs rule m =
+      pick-packs (ltb m (B .combinations)) (ruleBroken m (rule m)) (success 20 0)
+      (λ e. record { code = omega arith; sheet = omega arith; place = omega (arith, ltb-true m (B .combinations) e); written = omega arith })
       (success-packs 20 0 (omega arith) (omega arith))
 
   walk-packs : (es : List Entry) (m : ℕ) → length es ≤ 2046 → Packs (walkAt B es m)
@@ -146,10 +141,10 @@ module _ (B : Board) (few : B .combinations ≤ 2 ^ 12) (few-a : B .rowsA ≤ 25
 
   judge-packs : (v : AnswerVerdict) → readAnswer (B .rowsA) (B .rowsB) (B .combinations) s ≡ v → Packs (judge B v)
   unfolding judgeTables judgeWalk
-  judge-packs (answered (tables xs ys)) e = tables-packs (lowest (faultAt B (xs ++ ys)) (B .combinations))
+  judge-packs (answered (tables xs ys)) e = tables-packs (ruleAt B (xs ++ ys)) (lowest (faultAt B (xs ++ ys)) (B .combinations))
   judge-packs (answered (walk es)) e = walk-packs es (lowest (λ i. not (stepAt B es i)) (length es)) (walk-there _ _ _ s es e .walks .most)
   judge-packs (unanswered w) e =
-      refusal-packs (answerCodeOf w) 2 (placeOf w) (answer-code-small w) (omega arith) (omega (arith, answer-place-small _ _ _ s w few-a few-b e))
+      refusal-packs (answerCodeOf w) 2 (placeOf w) (omega (arith, answer-code-bounds w .0)) (omega arith) (omega (arith, answer-place-small _ _ _ s w few-a few-b e))
 
 after-packs : (f : Form) (job answer : List ℕ) (v : Verdict) → readJob f job ≡ v → Packs (afterJob v answer)
 unfolding judgeSheet
@@ -165,7 +160,7 @@ pub check-packs : (f : Form) (job answer : List ℕ) → Packs (checkOutcome f j
 unfolding checkOutcome
 check-packs f job answer = after-packs f job answer (readJob f job) refl
 
-pub check-found : (f : Form) (job answer : List ℕ) → unpack (pack (checkOutcome f job answer)) ≡ checkOutcome f job answer
+pub check-found : (f : Form) (job answer : List ℕ) → unpack (pack (checkOutcome f job answer)) ≡ handed (checkOutcome f job answer)
 check-found f job answer = unpack-pack (checkOutcome f job answer) (check-packs f job answer)
 
 -- ---- the solver
@@ -186,7 +181,7 @@ solve-packs {form} {job} {entry} {o} {exit} (solved j e l s) =
 
 pub solve-found : (form : Form) (job entry : List ℕ) (o : Outcome) (exit : List ℕ) (r : ℕ) → r ≡ pack o → Solved form job entry o exit → Solved form job entry (unpack r) exit
 solve-found form job entry o exit r e s =
-    subst (λ (x : Outcome). Solved form job entry x exit) (sym (ap unpack e ∙ unpack-pack o (solve-packs s))) s
+    subst (λ (x : Outcome). Solved form job entry x exit) (sym (ap unpack e ∙ plain-found o (solve-packs s) (solve-rule s))) s
 
 -- ---- the widener
 
@@ -235,7 +230,7 @@ pub widen-packs : (f : Form) (p q s entry : List ℕ) → Packs (widened f p q s
 unfolding widened
 widen-packs f p q s entry = p-packs f p q s entry (readJob f p) refl
 
-pub widen-found : (f : Form) (p q s entry : List ℕ) → unpack (pack (widened f p q s entry .outcome)) ≡ widened f p q s entry .outcome
+pub widen-found : (f : Form) (p q s entry : List ℕ) → unpack (pack (widened f p q s entry .outcome)) ≡ handed (widened f p q s entry .outcome)
 widen-found f p q s entry = unpack-pack (widened f p q s entry .outcome) (widen-packs f p q s entry)
 
 -- ---- the writer
@@ -249,7 +244,7 @@ unfolding writeOutcome
 write-packs j room = written-packs (judgeJob j room) (length (jobSheet j)) (judge-small j room) (sheet-small j room)
 
 pub write-found : (j : Job) (room : ℕ) → unpack (pack (writeOutcome j room)) ≡ writeOutcome j room
-write-found j room = unpack-pack (writeOutcome j room) (write-packs j room)
+write-found j room = plain-found (writeOutcome j room) (write-packs j room) (write-rule j room)
 
 -- ---- the mover
 
@@ -279,4 +274,4 @@ module _ (s entry : List ℕ) where
   move-packs Two = two-packs (readJob One s) refl
 
   pub move-found : (f : Form) → unpack (pack (moving f s entry .outcome)) ≡ moving f s entry .outcome
-  move-found f = unpack-pack (moving f s entry .outcome) (move-packs f)
+  move-found f = plain-found (moving f s entry .outcome) (move-packs f) (move-rule f s entry)

@@ -1,6 +1,7 @@
--- An outcome as one 64-bit number (document 01, "Bench use").
+-- An outcome as one 64-bit number (document 01, "Bench use"). The rule is not handed over with it.
 --     pack      the number of an outcome
 --     unpack    the outcome of a number
+--     handed    what is handed over of an outcome
 --     Packs     the outcome's numbers are small enough
 -- Assumes nothing: these are definitions.
 use Prim.Native.Nat.{ℕ, _+_, _*_, _/_, _%_, _^_, _<_}
@@ -11,7 +12,11 @@ abbrev pub pack : Outcome → ℕ
 pack o = o .code + 2 ^ 8 * o .sheet + 2 ^ 16 * o .place + 2 ^ 40 * o .written
 
 abbrev pub unpack : ℕ → Outcome
-unpack x = record { code = x % 2 ^ 8; sheet = x / 2 ^ 8 % 2 ^ 8; place = x / 2 ^ 16 % 2 ^ 24; written = x / 2 ^ 40 }
+unpack x = record { code = x % 2 ^ 8; sheet = x / 2 ^ 8 % 2 ^ 8; place = x / 2 ^ 16 % 2 ^ 24; written = x / 2 ^ 40; rule = 0 }
+
+-- numbers that outcomes gain later aren't
+abbrev pub handed : Outcome → Outcome
+handed o = record { code = o .code; sheet = o .sheet; place = o .place; written = o .written; rule = 0 }
 
 pub record Packs (o : Outcome) : Type 0 where
   pub code : o .code < 2 ^ 8

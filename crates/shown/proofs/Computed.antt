@@ -10,14 +10,14 @@ use Rattle.sheet.specs.Examples.{speed}
 use Rattle.sheet.specs.JobSheet.{maskOf, mask, countedMask, rules, excuses, head, job, readJob}
 use Rattle.answer.specs.AnswerSheet.{permitted, exactly, kindCount, walkCount, isBit, bit, bits, isBelow, below, entry, entries, tablesRest, walkRest, answer, readAnswer}
 use Rattle.answer.specs.Written.{fours}
-use Rattle.board.specs.Tests.{allBelow, amongb, fitsb, fromAb, fromBb, stepb, goesb, standsb}
-use Rattle.board.specs.JobBoard.{anyBelow, holdsb, breaksb, excusesb, excusedb}
-use Rattle.board.specs.Check.{firstFrom, judgeTables, judgeWalk, judgeSheet, checkOutcome}
+use Rattle.board.specs.Tests.{allBelow, firstFrom, amongb, fitsb, fromAb, fromBb, stepb, goesb, standsb}
+use Rattle.board.specs.JobBoard.{anyBelow, holdsb, breaksb, brokenRule, excusesb, excusedb}
+use Rattle.board.specs.Check.{judgeTables, judgeWalk, judgeSheet, checkOutcome}
 use Rattle.widener.specs.Asks.{samePins, allWithin, asksb}
 use Rattle.widener.specs.Table.{tabled}
 use Rattle.shown.specs.Papers.{papers}
 use Rattle.shown.proofs.Tests.{sameb, noneb, leastb, passes, every}
 
 pub all-pass : every passes papers ≡ true
-unfolding speed papers every passes sameb noneb leastb ones onesIn shown placed value byte word within count wordCount rising bytes.entry bytes.entries end maskOf mask countedMask rules excuses head job readJob permitted exactly kindCount walkCount isBit bit bits isBelow below entry entries tablesRest walkRest answer readAnswer fours allBelow amongb fitsb fromAb fromBb stepb goesb standsb anyBelow holdsb breaksb excusesb excusedb firstFrom judgeTables judgeWalk judgeSheet checkOutcome samePins someWithin allWithin asksb tabled
+unfolding speed papers every passes sameb noneb leastb ones onesIn shown placed value byte word within count wordCount rising bytes.entry bytes.entries end maskOf mask countedMask rules excuses head job readJob permitted exactly kindCount walkCount isBit bit bits isBelow below entry entries tablesRest walkRest answer readAnswer fours allBelow amongb fitsb fromAb fromBb stepb goesb standsb anyBelow holdsb breaksb brokenRule excusesb excusedb firstFrom judgeTables judgeWalk judgeSheet checkOutcome samePins someWithin allWithin asksb tabled
 all-pass = refl

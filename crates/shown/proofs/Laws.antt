@@ -62,8 +62,10 @@ outcomeb-true o p e =
     let c : o .code ≡ p .code = eqb-true _ _ (t .0) in
     let s : o .sheet ≡ p .sheet = eqb-true _ _ (u .0) in
     let a : o .place ≡ p .place = eqb-true _ _ (v .0) in
-    let w : o .written ≡ p .written = eqb-true _ _ (v .1) in
-    λ i. record { code = c i; sheet = s i; place = a i; written = w i }
+    let x = and-eq-true-iff (eqb (o .written) (p .written)) _ .0 (v .1) in
+    let w : o .written ≡ p .written = eqb-true _ _ (x .0) in
+    let r : o .rule ≡ p .rule = eqb-true _ _ (x .1) in
+    λ i. record { code = c i; sheet = s i; place = a i; written = w i; rule = r i }
 
 -- ---- the first fitting pair
 

@@ -34,7 +34,7 @@ sameb (x ∷ xs) [] = false
 sameb (x ∷ xs) (y ∷ ys) = eqb x y && sameb xs ys
 
 abbrev pub outcomeb : Outcome → Outcome → Bool
-outcomeb o p = eqb (o .code) (p .code) && (eqb (o .sheet) (p .sheet) && (eqb (o .place) (p .place) && eqb (o .written) (p .written)))
+outcomeb o p = eqb (o .code) (p .code) && (eqb (o .sheet) (p .sheet) && (eqb (o .place) (p .place) && (eqb (o .written) (p .written) && eqb (o .rule) (p .rule))))
 
 module _ (B : Board) where
   -- of the pairs that begin with the rows `settled` and have k more, none fits

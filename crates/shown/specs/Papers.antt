@@ -7,7 +7,7 @@
 -- Assumes nothing: these are definitions.
 use mathlib.Core.List.{List, [], _∷_, _++_}
 use Prim.Native.Nat.{ℕ}
-use Rattle.steps.specs.Outcome.{success, refusal}
+use Rattle.steps.specs.Outcome.{success, refusal, ruleBroken}
 use Rattle.sheet.specs.declared.Form.the-variants.{One, Two}
 use Rattle.sheet.specs.Examples.{speed}
 use Rattle.answer.specs.Answer.{Entry}
@@ -110,7 +110,14 @@ papers =
     ∷ solves Two speed-excused (tablesSheet (0 ∷ 1 ∷ []) (0 ∷ 1 ∷ []))
     ∷ judges Two speed-excused (tablesSheet (0 ∷ 1 ∷ []) (0 ∷ 1 ∷ [])) (success 20 0)
     ∷ judges Two speed-excused (walkSheet (by 3 3 ∷ by 6 3 ∷ by 2 3 ∷ by 6 3 ∷ [])) (refusal 12 2 0)
-    ∷ judges Two speed-two (tablesSheet (0 ∷ 1 ∷ []) (0 ∷ 1 ∷ [])) (refusal 10 2 3)
+    ∷ judges Two speed-two (tablesSheet (0 ∷ 1 ∷ []) (0 ∷ 1 ∷ [])) (ruleBroken 3 2)
+    -- tables of 0: where the first wire alone is 1, rule 0 is broken; with that excused, rule 1 where the second alone is; with both excused, rules 0 and 1
+    -- where both wires are
+    ∷ judges One speed (tablesSheet (0 ∷ 0 ∷ []) (0 ∷ 0 ∷ [])) (ruleBroken 1 0)
+    ∷ judges Two (speed ++ (1 ∷ 0 ∷ 2 ∷ 0 ∷ 3 ∷ [])) (tablesSheet (0 ∷ 0 ∷ []) (0 ∷ 0 ∷ [])) (ruleBroken 2 1)
+    ∷ judges Two (speed ++ (2 ∷ 0 ∷ 2 ∷ 0 ∷ 3 ∷ 2 ∷ 1 ∷ 2 ∷ [])) (tablesSheet (0 ∷ 0 ∷ []) (0 ∷ 0 ∷ [])) (ruleBroken 3 0)
+    -- J4's only rule has no term: broken at once
+    ∷ judges One J4 (tablesSheet (0 ∷ []) (0 ∷ [])) (ruleBroken 0 0)
     -- the empty excuse: any tables fit, and the first are of 0. Its job asks no more
     ∷ solves Two speed-free (tablesSheet (0 ∷ 0 ∷ []) (0 ∷ 0 ∷ []))
     ∷ widens Two speed-excused speed-free (tablesSheet (0 ∷ 1 ∷ []) (0 ∷ 1 ∷ [])) (tablesSheet (0 ∷ 1 ∷ []) (0 ∷ 1 ∷ []))

@@ -1,11 +1,13 @@
--- The codes of a job's refusals.
---     code-bounds    none is that of a success
+-- The codes of refusals.
+--     code-bounds           none of a job's is that of a success
+--     answer-code-bounds    nor is one of an answer's, and none of these is 10
 -- Assumes nothing.
+use mathlib.Core.Logic.{_≢_}
 use Prim.Native.Nat.{_≤_, _<_}
 use native.Mathlib.Omega.{arith}
 use Rattle.steps.specs.declared.Refusal.{Refusal}
 use Rattle.steps.specs.declared.Refusal.the-variants.{Ends, TooMany, NotRising, TooHigh, LeftOver, OtherKind, NotABit, OutOfRange}
-use Rattle.steps.specs.Outcome.{codeOf}
+use Rattle.steps.specs.Outcome.{codeOf, answerCodeOf}
 
 pub code-bounds : (w : Refusal) → (1 ≤ codeOf w) × (codeOf w < 20)
 code-bounds (Ends p) = (omega arith, omega arith)
@@ -16,3 +18,13 @@ code-bounds (LeftOver p) = (omega arith, omega arith)
 code-bounds (OtherKind p) = (omega arith, omega arith)
 code-bounds (NotABit p) = (omega arith, omega arith)
 code-bounds (OutOfRange p) = (omega arith, omega arith)
+
+pub answer-code-bounds : (w : Refusal) → (answerCodeOf w < 20) × (answerCodeOf w ≢ 10)
+answer-code-bounds (Ends p) = (omega arith, λ e. omega arith)
+answer-code-bounds (TooMany p) = (omega arith, λ e. omega arith)
+answer-code-bounds (NotRising p) = (omega arith, λ e. omega arith)
+answer-code-bounds (TooHigh p) = (omega arith, λ e. omega arith)
+answer-code-bounds (LeftOver p) = (omega arith, λ e. omega arith)
+answer-code-bounds (OtherKind p) = (omega arith, λ e. omega arith)
+answer-code-bounds (NotABit p) = (omega arith, λ e. omega arith)
+answer-code-bounds (OutOfRange p) = (omega arith, λ e. omega arith)

@@ -1,6 +1,7 @@
--- Outcomes (document 01, "Outcome numbers").
+-- Outcomes (document 01, "Outcome numbers"; document 02, request 4).
 --     codeOf, answerCodeOf, placeOf    the paper's number and place of each refusal, of a job sheet and of an answer sheet
 --     success, refusal   the two kinds of outcome
+--     ruleBroken         the refusal that names a rule (document 02, request 4)
 --     Ending, Ended      how a call with a lent buffer ends
 -- Assumes nothing: these are definitions.
 use Prim.Native.Nat.{ℕ}
@@ -46,13 +47,21 @@ placeOf (OtherKind place) = place
 placeOf (NotABit place) = place
 placeOf (OutOfRange place) = place
 
--- An outcome is four numbers: code, sheet, place, bytes written. Successes have sheet and place 0.
+-- An outcome is five numbers: code, sheet, place, bytes written, and the rule, from 0, for code 10; 0 elsewhere.
+-- Successes have sheet and place 0.
 abbrev pub success : (code written : ℕ) → Outcome
-success c w = record { code = c; sheet = 0; place = 0; written = w }
+success c w = record { code = c; sheet = 0; place = 0; written = w; rule = 0 }
 
 -- Refusals write 0 bytes.
+abbrev pub refusalNaming : (code sheet place rule : ℕ) → Outcome
+refusalNaming c s p r = record { code = c; sheet = s; place = p; written = 0; rule = r }
+
 abbrev pub refusal : (code sheet place : ℕ) → Outcome
-refusal c s p = record { code = c; sheet = s; place = p; written = 0 }
+refusal c s p = refusalNaming c s p 0
+
+-- 10: tables break a rule, at the lowest such combination.
+abbrev pub ruleBroken : (place rule : ℕ) → Outcome
+ruleBroken p r = refusalNaming 10 2 p r
 
 -- Codes 1 to 5 name the sheet being read.
 abbrev pub refusedJob : (sheet : ℕ) → Refusal → Outcome

@@ -3,7 +3,7 @@
 // the next place, or the refusal, which its caller hands up. The definitions stand in specs/Bytes and specs/Outcome.
 // Leans on nothing.
 ghost use mathlib.Core.Path.{_≡_};
-ghost use Rattle.steps.specs.Outcome.{codeOf, answerCodeOf, placeOf, success, refusal, refusedJob, refusedAnswer};
+ghost use Rattle.steps.specs.Outcome.{codeOf, answerCodeOf, placeOf, success, refusalNaming, refusal, ruleBroken, refusedJob, refusedAnswer};
 ghost use Rattle.steps.specs.Bytes.{byte, word, count, wordCount, entry, end};
 ghost use Rattle.steps.specs.Found.{asRead, withinOf, whyOf};
 
@@ -67,12 +67,13 @@ pub fn place_of(w: Refusal) -> usize
     }
 }
 
-// An outcome is four numbers. Successes have sheet and place 0; refusals write 0 bytes.
+// An outcome is five numbers. Successes have sheet and place 0; refusals write 0 bytes; only code 10 names a rule.
 pub struct Outcome {
     pub code: u8,
     pub sheet: u8,
     pub place: usize,
     pub written: usize,
+    pub rule: usize,
 }
 
 pub fn succeeded(code: u8, written: usize) -> Outcome
@@ -83,18 +84,34 @@ pub fn succeeded(code: u8, written: usize) -> Outcome
         sheet: 0,
         place: 0,
         written,
+        rule: 0,
     }
 }
 
-pub fn refused(code: u8, sheet: u8, place: usize) -> Outcome
-    ensures { λ r. ⌜ r ≡ refusal code sheet place ⌝ }
+// A refusal with the rule that it names, or with 0.
+fn refused_naming(code: u8, sheet: u8, place: usize, rule: usize) -> Outcome
+    ensures { λ r. ⌜ r ≡ refusalNaming code sheet place rule ⌝ }
 {
     Outcome {
         code,
         sheet,
         place,
         written: 0,
+        rule,
     }
+}
+
+pub fn refused(code: u8, sheet: u8, place: usize) -> Outcome
+    ensures { λ r. ⌜ r ≡ refusal code sheet place ⌝ }
+{
+    refused_naming(code, sheet, place, 0)
+}
+
+// The outcome of tables that break a rule: the combination, and the rule's number from 0.
+pub fn rule_broken(place: usize, rule: usize) -> Outcome
+    ensures { λ r. ⌜ r ≡ ruleBroken place rule ⌝ }
+{
+    refused_naming(10, 2, place, rule)
 }
 
 // The outcome of a job sheet that was refused.

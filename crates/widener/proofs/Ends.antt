@@ -6,38 +6,35 @@
 --     ends-asks, ends-room, ends-written    tables that fit: Q asks more, no room, and the widened sheet
 -- Assumes nothing.
 use mathlib.Core.Path.{_≡_, refl, sym, ap, ap₂, _∙_}
-use mathlib.Core.Bool.{Bool, true, false, not, and-eq-true-iff}
+use mathlib.Core.Bool.{true, false, and-eq-true-iff}
 use mathlib.Core.List.{List, _++_}
 use Prim.Native.Nat.{ℕ, _^_, _<_, _≤_}
 use native.Mathlib.Omega.{arith}
 use borrow.Author.Tests.{lt-ltb, le-ltb, eq-eqb, ne-eqb}
 use lib.Count.{ones}
-use lib.Dec.{ltb}
 use lib.ListN.{length, take, drop}
 use Rattle.wires.specs.Wires.{placed}
 use Rattle.wires.proofs.Rows.{row-below}
 use Rattle.steps.specs.declared.Outcome.{Outcome}
 use Rattle.steps.specs.declared.Refusal.{Refusal}
-use Rattle.steps.specs.declared.Refusal.the-variants.{Ends, TooMany, NotRising, TooHigh, LeftOver, OtherKind, NotABit, OutOfRange}
-use Rattle.steps.specs.Step.{pick}
-use Rattle.steps.specs.Outcome.{success, refusal, refusedJob, answerCodeOf, Ending, refusing, Ended}
+use Rattle.steps.specs.Outcome.{success, refusal, refusedJob, Ending, refusing, Ended}
+use Rattle.steps.proofs.Codes.{answer-code-bounds}
 use Rattle.sheet.specs.declared.Form.{Form}
 use Rattle.sheet.specs.declared.JobHead.{JobHead}
 use Rattle.sheet.specs.Job.{Job, accepted, rejected}
 use Rattle.sheet.specs.JobSheet.{readJob}
-use Rattle.answer.specs.Answer.{Entry, tables, walk, AnswerVerdict, answered}
+use Rattle.answer.specs.Answer.{tables, walk, AnswerVerdict, answered}
 use Rattle.answer.specs.Answer.{rejected as unanswered}
 use Rattle.answer.specs.AnswerSheet.{readAnswer, longest}
 use Rattle.answer.specs.Written.{tablesSheet}
 use Rattle.answer.proofs.There.{tables-there}
-use Rattle.board.specs.Board.{Board, opposite}
-use Rattle.board.specs.Walk.{entry}
-use Rattle.board.specs.Tests.{amongb}
+use Rattle.board.specs.Board.{Board}
 use Rattle.board.specs.JobBoard.{boardOf, jobBoard, headBoard}
-use Rattle.board.specs.Check.{lowest, stepAt, judgeTables, judgeWalk, judge, judgeSheet}
+use Rattle.board.specs.Check.{judgeTables, judgeWalk, judge, judgeSheet}
 use Rattle.board.specs.Places.{TablesIn}
 use Rattle.board.proofs.Accepting.{Taken}
 use Rattle.board.proofs.Judging.{tables-in}
+use Rattle.board.proofs.Codes.{tables-not, walk-not}
 use Rattle.widener.specs.Asks.{samePins, asksb}
 use Rattle.widener.specs.Table.{narrowRow, widenTable, widenSheet}
 use Rattle.sheet.specs.JobFound.{jobHead}
@@ -71,43 +68,13 @@ module _ (P : Job) (f : Form) (q s entry : List ℕ) where
   pub taken-second : (Q : Job) {o : Outcome} {exit : List ℕ} → readJob f q ≡ accepted Q → Ended (withBoth P Q s entry) o exit → Ended (withP P (readJob f q) s entry) o exit
   taken-second Q e x = rw e x
 
--- ---- the checker's codes
-
-module _ (B : Board) where
-  tables-not-21 : (T : List ℕ) → judgeTables B T .code ≡ 21 → ⊥
-  unfolding judgeTables
-  tables-not-21 T e = go (ltb _ (B .combinations)) _ e
-    where
-      go : (b : Bool) (m : ℕ) → pick b (refusal 10 2 m) (success 20 0) .code ≡ 21 → ⊥
-      go true m z = omega arith
-      go false m z = omega arith
-
-  walk-not-20 : (es : List Entry) → judgeWalk B es .code ≡ 20 → ⊥
-  unfolding judgeWalk
-  walk-not-20 es e = go (ltb (lowest (λ i. not (stepAt B es i)) (length es)) (length es)) (amongb (opposite (entry es 0 .says)) es) _ e
-    where
-      go : (b c : Bool) (m : ℕ) → pick b (refusal 12 2 m) (pick c (success 21 0) (refusal 13 2 0)) .code ≡ 20 → ⊥
-      go true c m z = omega arith
-      go false true m z = omega arith
-      go false false m z = omega arith
-
-answer-code : (w : Refusal) → answerCodeOf w < 20
-answer-code (Ends place) = omega arith
-answer-code (TooMany place) = omega arith
-answer-code (NotRising place) = omega arith
-answer-code (TooHigh place) = omega arith
-answer-code (LeftOver place) = omega arith
-answer-code (OtherKind place) = omega arith
-answer-code (NotABit place) = omega arith
-answer-code (OutOfRange place) = omega arith
-
 -- ---- the answer against P, whatever it was read as
 
 module _ (P Q : Job) (l : List ℕ) where
   judged-walk : (v : AnswerVerdict) → judge (jobBoard P) v .code ≡ 21 → judged P Q v l ≡ refusing (refusal 15 2 0) l
-  judged-walk (answered (tables xs ys)) e = absurd (tables-not-21 (jobBoard P) (xs ++ ys) e)
+  judged-walk (answered (tables xs ys)) e = absurd (tables-not (jobBoard P) (xs ++ ys) 21 (λ z. omega arith) (λ z. omega arith) e)
   judged-walk (answered (walk es)) e = rw (eq-eqb (judgeWalk (jobBoard P) es .code) 21 e)
-  judged-walk (unanswered w) e = let no : ⊥ = omega (arith, answer-code w) in absurd no
+  judged-walk (unanswered w) e = let no : ⊥ = omega (arith, answer-code-bounds w .0) in absurd no
 
   judged-refused : (v : AnswerVerdict) → (judge (jobBoard P) v .code ≡ 21 → ⊥) → (judge (jobBoard P) v .code ≡ 20 → ⊥)
       → judged P Q v l ≡ refusing (judge (jobBoard P) v) l
@@ -118,8 +85,8 @@ module _ (P Q : Job) (l : List ℕ) where
   judged-tables : (v : AnswerVerdict) → judge (jobBoard P) v .code ≡ 20
       → (xs : List ℕ) × (ys : List ℕ) × (v ≡ answered (tables xs ys)) × (judged P Q v l ≡ fitting P Q xs ys l)
   judged-tables (answered (tables xs ys)) e = (xs, ys, refl, rw (eq-eqb (judgeTables (jobBoard P) (xs ++ ys) .code) 20 e))
-  judged-tables (answered (walk es)) e = absurd (walk-not-20 (jobBoard P) es e)
-  judged-tables (unanswered w) e = let no : ⊥ = omega (arith, answer-code w) in absurd no
+  judged-tables (answered (walk es)) e = absurd (walk-not (jobBoard P) es 20 (λ z. omega arith) (λ z. omega arith) (λ z. omega arith) e)
+  judged-tables (unanswered w) e = let no : ⊥ = omega (arith, answer-code-bounds w .0) in absurd no
 
 -- ---- both jobs were taken
 

@@ -5,3 +5,4 @@ pub mod Tabling
 pub mod Writing
 pub mod Ends
 pub mod Demand
+pub mod Named

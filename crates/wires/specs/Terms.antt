@@ -6,6 +6,7 @@
 --     Fault     some rule is broken
 --     Truths    a mask is the set of the true terms
 --     Meets     a rule has a term in a set
+--     FirstBroken     the first of some rules that has none (document 02, request 4)
 --     Excuses   all terms of an excuse are true (document 02, request 2)
 --     Excused   some excuse's are
 --     Contains, containsb     a set contains all of another, and the same as a test that computes
@@ -60,6 +61,12 @@ pub record Truths (n a x y r : ℕ) : Type 0 where
 -- some term of the rule is in the set
 abbrev pub Meets : ℕ → ℕ → Type 0
 Meets rule set = (t : ℕ) × (wire rule t ≡ 1) × (wire set t ≡ 1)
+
+-- r is the number of the first of `count` rules with no term in the set, from 0, or `count` where each has one
+pub record FirstBroken (rules : List ℕ) (count set r : ℕ) : Type 0 where
+  pub most : r ≤ count
+  pub broken : r < count → Meets (getD rules r 0) set → ⊥
+  pub before : (i : ℕ) → i < r → Meets (getD rules i 0) set
 
 -- all terms of the excuse are true at the combination a. They are terms of wires, below 2n, so the cells' values don't matter
 abbrev pub Excuses : ℕ → ℕ → ℕ → Type 0

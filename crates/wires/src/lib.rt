@@ -8,7 +8,7 @@ ghost use Prim.Native.Nat.{ℕ, _-_, _^_, _<_, _≤_};
 ghost use lib.Count.{ones};
 ghost use lib.ListN.{length, take};
 ghost use Rattle.wires.specs.Wires.{shown, placed};
-ghost use Rattle.wires.specs.Terms.{Setting, Truths, Meets, containsb, someWithin};
+ghost use Rattle.wires.specs.Terms.{Setting, Truths, Meets, FirstBroken, containsb, someWithin};
 
 // Claim 2r says that row r holds 0, claim 2r + 1 that it holds 1; rows of A come first, then rows of B.
 pub struct Claim(pub u16);
@@ -89,6 +89,21 @@ pub fn rule_holds(rule: u32, truths: u32) -> bool
         return false;
     }
     true
+}
+
+// The first of `count` rules with no term among the true ones, or `count` where each has one.
+pub fn first_broken(rules: &[u32], count: usize, truths: u32) -> usize
+    requires { ⌜ count ≤ length (now rules) ⌝ }
+    ensures { λ r. ⌜ FirstBroken (now (rules .entry)) count truths r ⌝ }
+{
+    let mut rule: usize = 0;
+    while rule < count {
+        if !rule_holds(rules[rule], truths) {
+            return rule;
+        }
+        rule += 1;
+    }
+    rule
 }
 
 // Does the set `r` contain all of the set `s`?

@@ -1,6 +1,6 @@
 -- `board::step_holds` meets its contract: of the two rows that the combination shows, each claim is of one or of none.
 -- Assumes nothing.
-use mathlib.Core.Path.{_≡_, sym, _∙_}
+use mathlib.Core.Path.{_≡_, sym, ap, _∙_}
 use mathlib.Core.Bool.{Bool, false}
 use mathlib.Core.List.{List}
 use mathlib.Core.Logic.{_≢_}
@@ -12,14 +12,18 @@ use lib.Pow.{pow-mono}
 use Rattle.wires.specs.Wires.{shown}
 use Rattle.wires.proofs.Rows.{row-below}
 use Rattle.sheet.specs.declared.JobHead.{JobHead}
+use Rattle.board.specs.declared.Broken.{Broken}
 use Rattle.board.specs.Tests.{stepb}
+use Rattle.board.specs.Tested.{tested, isBroken}
 use Rattle.board.specs.JobBoard.{headBoard}
+use Rattle.board.proofs.Tested.{tested-broken}
 use Rattle.board.proofs.StepCases.{from-a, from-a-not, from-b, from-b-not, from-none}
 use Rattle.board.proofs.step_holds.Statement.{statement}
 use Rattle.board.proofs.step_holds.Tie as tie
 use Rattle.board.proofs.step_holds.Reads as reads
 use Rattle.board.proofs.step_holds.Lts as lts
 use Rattle.board.proofs.test.Reads as test-reads
+use Rattle.board.proofs.is_broken.Reads as is-broken-reads
 use Rattle.wires.proofs.row_count.Reads as row-count-reads
 use Rattle.wires.proofs.row_shown.Reads as row-shown-reads
 
@@ -30,16 +34,16 @@ record Told (h : JobHead) (a ofA countA ofB : ℕ) : Type 0 where
   rowB : ofB ≡ shown (h .wires) (h .«sees_b») a
 
 module _ (h : JobHead) (masks : List ℕ) (L M a ofA countA ofB : ℕ) (l : a < 2 ^ h .wires) (t : Told h a ofA countA ofB) where
-  both-a : (r : Bool) → r ≡ headBoard h masks .breaks a (L % 2) (1 - M % 2) → L / 2 ≡ ofA → M / 2 ≡ countA + ofB
+  both-a : (f : Broken) (r : Bool) → f ≡ tested (headBoard h masks) a (L % 2) (1 - M % 2) → r ≡ isBroken f → L / 2 ≡ ofA → M / 2 ≡ countA + ofB
       → r ≡ stepb (headBoard h masks) L M a
-  both-a r e p q = e ∙ sym (from-a (headBoard h masks) L M a l (row-below (h .wires) (h .«sees_a») a) (omega arith) (omega arith))
+  both-a f r told e p q = e ∙ ap isBroken told ∙ tested-broken (headBoard h masks) a (L % 2) (1 - M % 2) ∙ sym (from-a (headBoard h masks) L M a l (row-below (h .wires) (h .«sees_a») a) (omega arith) (omega arith))
 
   not-b : L / 2 ≡ ofA → M / 2 ≢ countA + ofB → false ≡ stepb (headBoard h masks) L M a
   not-b p q = sym (from-a-not (headBoard h masks) L M a l (row-below (h .wires) (h .«sees_a») a) (omega arith) (λ e. q (omega arith)))
 
-  both-b : (r : Bool) → r ≡ headBoard h masks .breaks a (1 - M % 2) (L % 2) → L / 2 ≡ countA + ofB → M / 2 ≡ ofA
+  both-b : (f : Broken) (r : Bool) → f ≡ tested (headBoard h masks) a (1 - M % 2) (L % 2) → r ≡ isBroken f → L / 2 ≡ countA + ofB → M / 2 ≡ ofA
       → r ≡ stepb (headBoard h masks) L M a
-  both-b r e p q = e ∙ sym (from-b (headBoard h masks) L M a l (row-below (h .wires) (h .«sees_a») a) (omega arith) (omega arith))
+  both-b f r told e p q = e ∙ ap isBroken told ∙ tested-broken (headBoard h masks) a (1 - M % 2) (L % 2) ∙ sym (from-b (headBoard h masks) L M a l (row-below (h .wires) (h .«sees_a») a) (omega arith) (omega arith))
 
   not-a : L / 2 ≡ countA + ofB → M / 2 ≢ ofA → false ≡ stepb (headBoard h masks) L M a
   not-a p q = sym (from-b-not (headBoard h masks) L M a l (row-below (h .wires) (h .«sees_a») a) (omega arith) (λ e. q (omega arith)))
@@ -49,7 +53,7 @@ module _ (h : JobHead) (masks : List ℕ) (L M a ofA countA ofB : ℕ) (l : a < 
 
 -- the place where both rows are known
 abbrev Shown : Type 0
-Shown = lts.After-row-shown2 (row-shown-reads.Asked, row-shown-reads.Learnt, row-count-reads.Asked, row-count-reads.Learnt, test-reads.Asked, test-reads.Learnt) reads.Pre reads.Post
+Shown = lts.After-row-shown2 (row-shown-reads.Asked, row-shown-reads.Learnt, row-count-reads.Asked, row-count-reads.Learnt, test-reads.Asked, test-reads.Learnt, is-broken-reads.Asked, is-broken-reads.Learnt) reads.Pre reads.Post
 
 told : (p : Shown)
     → Told (p .before .before .before .before .before .before .args .h) (p .before .before .before .before .before .before .args .a .0)
@@ -95,11 +99,15 @@ sub-test c = search needs
 test-requires : tie.Need-test-requires
 test-requires c κs = search needs
 
+is-broken-requires : tie.Need-is-broken-requires
+is-broken-requires c κs = search needs
+
 returns : tie.Need-returns
 returns c =
-    let p = c .before .before .before .before .before in
+    let called = c .before in
+    let p = called .before .before .before .before .before in
     let s = p .before .before .before .before .before .before in
-    both-a (s .args .h) (s .args .masks .now) (s .args .l .0) (s .args .m .0) _ _ _ _ (s .pre .1) (told p) _ (c .test .ensures) (c .before .before .if1 .taken) (c .before .if2 .taken)
+    both-a (s .args .h) (s .args .masks .now) (s .args .l .0) (s .args .m .0) _ _ _ _ (s .pre .1) (told p) _ _ (called .test .ensures) (c .is-broken .ensures) (called .before .before .if1 .taken) (called .before .if2 .taken)
 
 returns-2 : tie.Need-returns-2
 returns-2 c =
@@ -113,11 +121,15 @@ sub-test-2 c = search needs
 test-requires-2 : tie.Need-test-requires-2
 test-requires-2 c κs = search needs
 
+is-broken-requires-2 : tie.Need-is-broken-requires-2
+is-broken-requires-2 c κs = search needs
+
 returns-3 : tie.Need-returns-3
 returns-3 c =
-    let p = c .before .before .before .before .before .before in
+    let called = c .before in
+    let p = called .before .before .before .before .before .before in
     let s = p .before .before .before .before .before .before in
-    both-b (s .args .h) (s .args .masks .now) (s .args .l .0) (s .args .m .0) _ _ _ _ (s .pre .1) (told p) _ (c .test2 .ensures) (c .before .before .if3 .taken) (c .before .if4 .taken)
+    both-b (s .args .h) (s .args .masks .now) (s .args .l .0) (s .args .m .0) _ _ _ _ (s .pre .1) (told p) _ _ (called .test2 .ensures) (c .is-broken2 .ensures) (called .before .before .if3 .taken) (called .before .if4 .taken)
 
 returns-4 : tie.Need-returns-4
 returns-4 c =
@@ -146,10 +158,12 @@ step-holds-spec =
     cast-to
     sub-test
     test-requires
+    is-broken-requires
     returns
     returns-2
     sub-test-2
     test-requires-2
+    is-broken-requires-2
     returns-3
     returns-4
     returns-5)

@@ -1,7 +1,6 @@
 -- `board::check::fault_at` meets its contract: the two entries are those of the rows that the combination shows.
 -- Assumes nothing.
 use mathlib.Core.Path.{_≡_}
-use mathlib.Core.Bool.{Bool}
 use mathlib.Core.List.{List}
 use Prim.Native.Nat.{ℕ, _+_, _^_, _<_}
 use native.Mathlib.Omega.{arith}
@@ -10,8 +9,10 @@ use lib.Count.{ones}
 use lib.ListN.{getD}
 use Rattle.wires.specs.Wires.{shown}
 use Rattle.sheet.specs.declared.JobHead.{JobHead}
+use Rattle.board.specs.declared.Broken.{Broken}
+use Rattle.board.specs.Tested.{tested}
 use Rattle.board.specs.JobBoard.{headBoard}
-use Rattle.board.specs.Places.{faultIn, TablesIn}
+use Rattle.board.specs.Places.{testedIn, TablesIn}
 use Rattle.board.proofs.check.fault_at.Statement.{statement}
 use Rattle.board.proofs.check.fault_at.Tie as tie
 
@@ -21,9 +22,9 @@ bit-b : (h : JobHead) (answer : List ℕ) → TablesIn h answer → (countA ofB 
 bit-b h answer t countA ofB e l = rw e (t .bitsB ofB l)
 
 -- the test of the two entries
-is-fault : (h : JobHead) (masks answer : List ℕ) (a ofA countA ofB : ℕ) (r : Bool)
-    → r ≡ headBoard h masks .breaks a (getD answer (2 + ofA) 0) (getD answer (4 + countA + ofB) 0)
-    → ofA ≡ shown (h .wires) (h .«sees_a») a → countA ≡ 2 ^ ones (h .«sees_a») → ofB ≡ shown (h .wires) (h .«sees_b») a → r ≡ faultIn h masks answer a
+is-fault : (h : JobHead) (masks answer : List ℕ) (a ofA countA ofB : ℕ) (r : Broken)
+    → r ≡ tested (headBoard h masks) a (getD answer (2 + ofA) 0) (getD answer (4 + countA + ofB) 0)
+    → ofA ≡ shown (h .wires) (h .«sees_a») a → countA ≡ 2 ^ ones (h .«sees_a») → ofB ≡ shown (h .wires) (h .«sees_b») a → r ≡ testedIn h masks answer a
 is-fault h masks answer a ofA countA ofB r e p q s = rw (← p, ← q, ← s) e
 
 cast-row-shown : tie.Need-cast-row-shown
