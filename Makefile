@@ -42,8 +42,8 @@ $(BENCH) $(BENCH2): target/bin/%: $(PROVED)
 	@rt check $* >&2
 	@touch $@
 
-COMMAND = host/ormsvelg.c $(addprefix host/,archive.h describe.h request.h save.h sheet.h words.h) include/ormsvelg.h Makefile \
-    tools/x86 $(LIBRARY)
+COMMAND = host/ormsvelg.c $(addprefix host/,archive.h board.h describe.h request.h save.h sheet.h words.h) include/ormsvelg.h \
+    Makefile tools/x86 $(LIBRARY)
 
 build/ormsvelg: $(COMMAND)
 	@mkdir -p build

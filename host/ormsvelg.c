@@ -1,6 +1,7 @@
 /* host/ormsvelg.c: the command for files at the bench: reads, solves, checks, widens, writes and moves sheets, in words.
  * Use: ormsvelg --help. Exit status: 0 an accepted outcome, 1 a refusal, 2 a wrong use or a file that fails.
- * Every outcome is the proved library's. What stands here carries bytes, takes a text apart and puts numbers into words.
+ * Every outcome is the proved library's. What stands here carries bytes, takes a text apart, puts numbers into words, and
+ * finds the rule that tables break at the library's combination.
  */
 #define _XOPEN_SOURCE 700
 

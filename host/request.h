@@ -58,6 +58,8 @@ static const char help[] =
     "or not at all. A table has a digit for each row, rows rising; a row is numbered by the wires the cell sees, lowest\n"
     "first, with weights 1, 2, 4 and so on. A line of a walk says what one row's value asks of another's, by the states\n"
     "of the wires; the last leads back to the first. In a refusal sheet 1 is JOB, P or IN, sheet 2 ANSWER, sheet 3 Q.\n"
+    "For tables that break a rule it goes on with the states of the wires, the lowest rule of JOB or P that is broken\n"
+    "there, and what A and B hold there.\n"
     "\n"
     "A text has a line for the pins of the wires, one for the wires that A sees, one for those that B sees, and then one\n"
     "for each rule. Wires are numbered from 0, in the order of their pins; # begins a comment:\n"

@@ -33,6 +33,11 @@ says() { # STATUS LINES -- ARGS
     expect "$*: standard error" "$(cat "$folder/errors")" ''
 }
 
+# Tables that break a rule: the combination, its wires, and the lines of the rule, of A and of B.
+breaks() { # COMBINATION WIRES LINES -- ARGS
+    says 1 "refused: code 10 on sheet 2 at combination $1: tables break a rule" "broken at $2" "${@:3}"
+}
+
 # An error: status 2, nothing on standard output, and a first line that says why.
 fails() { # FIRST_LINE -- ARGS
     local line=$1 said
@@ -59,6 +64,14 @@ makes() { # TEXT HEX..
     expect "a text: $text" "$? ${said%%$'\n'*}" "0 sheet of $# bytes"
     expect "a text: $text: the sheet" "$(bytes "$@" | cmp - "$folder/made" && echo same)" same
     rm -f "$folder/made"
+}
+
+# The sheet that a text, with its escapes, describes.
+described() { # TEXT
+    printf '%b' "$1" >"$folder/text"
+    ormsvelg write "$folder/text" -o "$folder/described" >/dev/null
+    cat "$folder/described"
+    rm -f "$folder/described"
 }
 
 # An archive that is moved: the status, the counts in one word of lines, and on standard error a line for each file.
@@ -140,10 +153,9 @@ refusals() {
     says 1 'refused: code 8 on sheet 2 at byte 0: count that fits neither tables nor a walk for this job' \
         -- check examples/J2.job examples/J1.answer
     says 1 'refused: code 9 on sheet 2 at byte 2: table byte above 1' -- check examples/J1.job "$folder/bit"
-    says 1 'refused: code 10 on sheet 2 at combination 1: tables break a rule' 'broken at wires 0=1' \
+    breaks 1 'wires 0=1' 'rule 0: wire 0 is 0 or B is 1' 'A row 0 is 0' 'B row 0 is 0' \
         -- check examples/J7.job examples/J1.answer
-    says 1 'refused: code 10 on sheet 2 at combination 0: tables break a rule' 'broken at no wires' \
-        -- check examples/J4.job examples/J1.answer
+    breaks 0 'no wires' 'rule 0: never holds' 'A row 0 is 0' 'B row 0 is 0' -- check examples/J4.job examples/J1.answer
     says 1 'refused: code 11 on sheet 2 at byte 6: claim or combination not below its limit' \
         -- check examples/J1.job "$folder/range"
     says 1 'refused: code 12 on sheet 2 at entry 0: step does not hold' \
@@ -203,7 +215,7 @@ form_refusals() {
     says 1 'refused: code 2 on sheet 1 at byte 18: count above its limit' -- read --form 2 "$folder/many"
     says 1 'refused: code 3 on sheet 1 at byte 22: entry not above the one before' -- solve --form 2 "$folder/rising"
     says 1 'refused: code 4 on sheet 1 at byte 21: wire position or term not below its limit' -- read --form 2 "$folder/high"
-    says 1 'refused: code 10 on sheet 2 at combination 3: tables break a rule' 'broken at wires 0=1 1=1' \
+    breaks 3 'wires 0=1 1=1' 'rule 2: A is 0 or B is 0' 'A row 1 is 1' 'B row 1 is 1' \
         -- check --form 2 examples/speed.two.job examples/speed-excused.answer
     says 1 'refused: code 12 on sheet 2 at entry 0: step does not hold' \
         'not so: A row 1 is 1, so B row 1 is 0, by wires 0=1 1=1' \
@@ -216,6 +228,92 @@ form_refusals() {
         -- widen --form 2 "$folder/first" examples/speed.job examples/speed-excused.answer
     says 1 'refused: code 15 on sheet 2: answer is a walk where tables are needed' \
         -- widen --form 2 examples/speed.two.job examples/speed-excused.two.job examples/speed.walk.answer
+}
+
+# Rules that tables break, both with the checker and with the widener, where they are those of job P.
+# With no wires and J1's tables, A and B are 0. Of the seed counter only rule 4 is broken, where dust is counted. J7's rule 0
+# is broken at 1, whatever Q is.
+rules_broken() {
+    local rule
+    breaks 11 'wires 0=1 1=1 2=0 3=1' 'rule 4: A is 0 or B is 0' 'A row 1 is 1' 'B row 11 is 1' \
+        -- check examples/counter-mended.job examples/counter-dust.answer
+    breaks 11 'wires 0=1 1=1 2=0 3=1' 'rule 4: A is 0 or B is 0' 'A row 1 is 1' 'B row 11 is 1' \
+        -- widen examples/counter-mended.job examples/J1.job examples/counter-dust.answer -o "$folder/none"
+    breaks 1 'wires 0=1' 'rule 0: wire 0 is 0 or B is 1' 'A row 0 is 0' 'B row 0 is 0' \
+        -- widen examples/J7.job examples/J6.job examples/J1.answer -o "$folder/none"
+    expect 'a widening that is refused' "$([ -e "$folder/none" ] || echo none)" none
+    input=examples/J1.answer
+    breaks 1 'wires 0=1' 'rule 0: wire 0 is 0 or B is 1' 'A row 0 is 0' 'B row 0 is 0' -- check examples/J7.job -
+    input=/dev/null
+    described 'pins\nA\nB\nrule -A\nrule\nrule B\n' >"$folder/job"
+    breaks 0 'no wires' 'rule 1: never holds' 'A row 0 is 0' 'B row 0 is 0' -- check "$folder/job" examples/J1.answer
+    breaks 0 'no wires' 'rule 1: never holds' 'A row 0 is 0' 'B row 0 is 0' \
+        -- widen "$folder/job" examples/J4.job examples/J1.answer
+    described 'pins\nA\nB\nrule A -A\nrule B\nrule B\nrule A\n' >"$folder/job"
+    breaks 0 'no wires' 'rule 1: B is 1' 'A row 0 is 0' 'B row 0 is 0' -- check "$folder/job" examples/J1.answer
+    { bytes 00 00 00 00 01; for rule in {0..254}; do bytes 02 00 01; done; bytes 02 00 02; } >"$folder/job"
+    breaks 0 'no wires' 'rule 255: A is 1 or B is 1' 'A row 0 is 0' 'B row 0 is 0' -- check "$folder/job" examples/J1.answer
+    breaks 0 'no wires' 'rule 255: A is 1 or B is 1' 'A row 0 is 0' 'B row 0 is 0' \
+        -- widen "$folder/job" "$folder/job" examples/J1.answer
+    { cat "$folder/job"; bytes 01 00 00; } >"$folder/excused"
+    says 0 'tables fit' 'A 0' 'B 0' -- check --form 2 "$folder/excused" examples/J1.answer
+    bytes 00 00 >>"$folder/job"
+    breaks 0 'no wires' 'rule 255: A is 1 or B is 1' 'A row 0 is 0' 'B row 0 is 0' \
+        -- check --form 2 "$folder/job" examples/J1.answer
+}
+
+# A sees wires 1 and 2, and is 0 in row 2 alone: at 4 and 5. B sees wires 0 and 2, and is 1 in row 3 alone: at 5 and 7.
+# So rules 1 and 2 are broken at 4, all at 5, rules 0 and 3 at 7, and none elsewhere. Q has the same rules the other way round.
+# The excuse is for wire 0 at 0 and wire 2 at 1: 4 and 6.
+lowest_rule() {
+    local head='pins 0 1 2\nA 1 2\nB 0 2\n' four five name
+    four=('wires 0=0 1=0 2=1' 'rule 1: wire 2 is 0 or A is 1' 'A row 2 is 0' 'B row 2 is 0')
+    five=('wires 0=1 1=0 2=1' 'rule 0: B is 0' 'A row 2 is 0' 'B row 3 is 1')
+    described "${head}rule -B\nrule -2 A\nrule A\nrule -0 -B\n" >"$folder/p"
+    described "${head}rule -0 -B\nrule A\nrule -2 A\nrule -B\n" >"$folder/q"
+    bytes 04 00 01 01 00 01 04 00 00 00 00 01 00 00 >"$folder/answer"
+    breaks 4 "${four[@]}" -- check "$folder/p" "$folder/answer"
+    breaks 4 "${four[@]}" -- widen "$folder/p" "$folder/q" "$folder/answer"
+    breaks 4 'wires 0=0 1=0 2=1' 'rule 1: A is 1' 'A row 2 is 0' 'B row 2 is 0' -- check "$folder/q" "$folder/answer"
+    for name in p q; do
+        { cat "$folder/$name"; bytes 00 00; } >"$folder/$name.two"
+        { cat "$folder/$name"; bytes 01 00 02 01 04; } >"$folder/$name.excused"
+    done
+    breaks 4 "${four[@]}" -- check --form 2 "$folder/p.two" "$folder/answer"
+    breaks 5 "${five[@]}" -- check --form 2 "$folder/p.excused" "$folder/answer"
+    breaks 4 "${four[@]}" -- widen --form 2 "$folder/p.two" "$folder/q.excused" "$folder/answer"
+    breaks 5 "${five[@]}" -- widen --form 2 "$folder/p.excused" "$folder/q.two" "$folder/answer"
+    breaks 5 'wires 0=1 1=0 2=1' 'rule 0: wire 0 is 0 or B is 0' 'A row 2 is 0' 'B row 3 is 1' \
+        -- check --form 2 "$folder/q.excused" "$folder/answer"
+    # The speed wires with both cells always 0: rule 0 is broken at 1, rule 1 at 2, both at 3.
+    bytes 02 00 00 00 02 00 00 00 00 00 >"$folder/answer"
+    { cat examples/speed.job; bytes 01 00 01 00; } >"$folder/excused"
+    breaks 1 'wires 0=1 1=0' 'rule 0: wire 0 is 0 or A is 1' 'A row 1 is 0' 'B row 0 is 0' \
+        -- check examples/speed.job "$folder/answer"
+    breaks 2 'wires 0=0 1=1' 'rule 1: wire 1 is 0 or B is 1' 'A row 0 is 0' 'B row 1 is 0' \
+        -- check --form 2 "$folder/excused" "$folder/answer"
+    breaks 3 'wires 0=1 1=1' 'rule 2: A is 0 or B is 0' 'A row 1 is 1' 'B row 1 is 1' \
+        -- widen --form 2 examples/speed.two.job examples/speed-excused.two.job examples/speed-excused.answer
+}
+
+# Twelve wires. First A's row is wire 1 + 2 x wire 11, and A is 0 in row 2 alone; B's is wire 0 + 2 x wire 4 + 4 x wire 5.
+# Wires 4 and 11 are 1 and wire 1 is 0 first at 16 + 2048. Then each cell sees eight wires, and the rule is broken at the
+# last combination alone, which shows the last rows.
+broken_of_twelve() {
+    local head='pins 0 1 2 3 4 5 6 7 8 9 10 11' all
+    described "$head\nA 1 11\nB 0 4 5\nrule -4 -11 A\n" >"$folder/job"
+    bytes 04 00 01 01 00 01 08 00 00 00 01 00 00 00 00 00 00 00 >"$folder/answer"
+    breaks 2064 'wires 0=0 1=0 2=0 3=0 4=1 5=0 6=0 7=0 8=0 9=0 10=0 11=1' 'rule 0: wire 4 is 0 or wire 11 is 0 or A is 1' \
+        'A row 2 is 0' 'B row 2 is 1' -- check "$folder/job" "$folder/answer"
+    described "$head\nA 4 5 6 7 8 9 10 11\nB 0 1 2 3 4 5 6 7\nrule +0 -0\nrule -0 -1 -2 -3 -4 -5 -6 -7 -8 -9 -10 -11\n" \
+        >"$folder/job"
+    { bytes 00 01; head -c 255 /dev/zero; bytes 01 00 01; head -c 258 /dev/zero; } >"$folder/answer"
+    all='wire 0 is 0 or wire 1 is 0 or wire 2 is 0 or wire 3 is 0 or wire 4 is 0 or wire 5 is 0'
+    all="$all or wire 6 is 0 or wire 7 is 0 or wire 8 is 0 or wire 9 is 0 or wire 10 is 0 or wire 11 is 0"
+    breaks 4095 'wires 0=1 1=1 2=1 3=1 4=1 5=1 6=1 7=1 8=1 9=1 10=1 11=1' "rule 1: $all" 'A row 255 is 1' 'B row 255 is 0' \
+        -- check "$folder/job" "$folder/answer"
+    breaks 4095 'wires 0=1 1=1 2=1 3=1 4=1 5=1 6=1 7=1 8=1 9=1 10=1 11=1' "rule 1: $all" 'A row 255 is 1' 'B row 255 is 0' \
+        -- widen "$folder/job" "$folder/job" "$folder/answer"
 }
 
 # The longest sheets, and files far longer than any sheet.
@@ -828,7 +926,7 @@ END
 full_output() {
     local words
     for words in '--help' '--version' 'read examples/J2.job' 'solve examples/J3.job' 'write examples/J2.text' \
-        'read --form 2 examples/speed-excused.two.job' 'move --to 2 examples/J2.job' \
+        'read --form 2 examples/speed-excused.two.job' 'move --to 2 examples/J2.job' 'check examples/J7.job examples/J1.answer' \
         "read $folder/many_rules"; do
         # shellcheck disable=SC2086
         expect "$words to a full disk" "$(ormsvelg $words 2>&1 >/dev/full; echo "status $?")" \
@@ -847,6 +945,9 @@ walks
 refusals
 forms
 form_refusals
+rules_broken
+lowest_rule
+broken_of_twelve
 sizes
 sizes_two
 texts

@@ -4,26 +4,7 @@
 #ifndef HOST_WORDS_H
 #define HOST_WORDS_H
 
-#include "sheet.h"
-
-/* Where an accepted job has its sections, and the numbers that its answers are read by. */
-struct board {
-    unsigned wires, rows_a, rows_b;
-    const uint8_t *pins, *seen_a, *seen_b, *rules;
-};
-
-static inline struct board board_of(const uint8_t *job)
-{
-    struct board board;
-    board.wires = job[0];
-    board.pins = job + 1;
-    board.seen_a = board.pins + board.wires;
-    board.rows_a = 1u << board.seen_a[0];
-    board.seen_b = board.seen_a + 1 + board.seen_a[0];
-    board.rows_b = 1u << board.seen_b[0];
-    board.rules = board.seen_b + 1 + board.seen_b[0];
-    return board;
-}
+#include "board.h"
 
 /* A counted run of bytes, from its count on. */
 static inline void show_seen(char cell, const uint8_t *seen, unsigned rows)
@@ -192,16 +173,31 @@ static inline void show_refused(FILE *out, uint64_t outcome)
     fprintf(out, ": %s\n", reason(code));
 }
 
+/* The states of the wires at a combination, the lowest rule that the tables break there, and what the two rows hold that it
+ * shows, so that each term of the rule can be seen to be false. */
+static inline void show_broken(const uint8_t *job, const uint8_t *answer, unsigned combination)
+{
+    struct board board = board_of(job);
+    struct broken broken = lowest_broken(job, answer, combination);
+    struct held held = held_at(&board, answer, combination);
+    printf("broken at ");
+    show_wires(board.wires, combination);
+    putchar('\n');
+    if (broken.rule != NULL)
+        show_terms(&as_rule, board.wires, broken.number, broken.rule);
+    show_claim(&board, held.claim_a);
+    putchar('\n');
+    show_claim(&board, held.claim_b);
+    putchar('\n');
+}
+
 /* A refusal, and for a combination or an entry what it is. */
 static inline void show_refusal(uint64_t outcome, const uint8_t *job, const uint8_t *answer)
 {
     uint32_t code = ormsvelg_code(outcome), place = ormsvelg_place(outcome);
     show_refused(stdout, outcome);
-    if (code == ORMSVELG_BREAKS_RULE) {
-        printf("broken at ");
-        show_wires(board_of(job).wires, place);
-        putchar('\n');
-    }
+    if (code == ORMSVELG_BREAKS_RULE)
+        show_broken(job, answer, place);
     if (code == ORMSVELG_NO_STEP) {
         struct board board = board_of(job);
         printf("not so: ");
