@@ -22,6 +22,7 @@ PREFIX ?= /usr/local
 LIBRARY = target/staticlib/libormsvelg.a
 BENCH = target/bin/bench
 BENCH2 = target/bin/bench2
+OUTCOMES = target/bin/outcomes
 C = -std=c11 -Wall -Wextra -Werror
 # Loops are aligned, so that no time hangs on where the linker happens to put a short one.
 CXXFLAGS = -std=c++20 -Wall -Wextra -Werror -O3 -falign-functions=64 -falign-loops=64
@@ -38,7 +39,7 @@ $(LIBRARY): $(PROVED)
 	rt staticlib ormsvelg
 
 # What rt says goes to standard error, so that a run prints the answer alone.
-$(BENCH) $(BENCH2): target/bin/%: $(PROVED)
+$(BENCH) $(BENCH2) $(OUTCOMES): target/bin/%: $(PROVED)
 	@rt check $* >&2
 	@touch $@
 
@@ -79,8 +80,8 @@ install: build/ormsvelg
 	sed '/^#/d; s|@PREFIX@|$(PREFIX)|; s|@VERSION@|$(VERSION)|' host/ormsvelg.pc.in >build/ormsvelg.pc
 	install -m 644 build/ormsvelg.pc "$(TO)/lib/pkgconfig/ormsvelg.pc"
 
-TESTS = build/test build/test_two build/test_solve build/test_widen build/test_write build/test_move
-TESTED = host/guarded.h host/lent.h host/listed.h include/ormsvelg.h tools/x86 $(LIBRARY)
+TESTS = build/test build/test_two build/test_solve build/test_widen build/test_write build/test_move build/test_rule
+TESTED = $(addprefix host/,board.h guarded.h lent.h listed.h sheet.h) include/ormsvelg.h tools/x86 $(LIBRARY)
 
 $(TESTS): build/%: host/%.c $(TESTED)
 	@mkdir -p build
@@ -90,13 +91,23 @@ $(TESTS:=-sanitized): build/%-sanitized: host/%.c $(TESTED)
 	@mkdir -p build
 	$(HOST) $(SANITIZED) -o $@ host/$*.c $(LIBRARY)
 
-host-test: $(TESTS) build/ormsvelg $(BENCH) $(BENCH2)
+# What the library tells of the stored cases, the broken rule too, which the C face does not hand over.
+CASES = crates/outcomes/stdin build/outcomes.lines
+
+build/outcomes.lines: $(OUTCOMES) crates/outcomes/stdin crates/outcomes/stdout tools/x86
+	@mkdir -p build
+	tools/x86 run $(OUTCOMES) <crates/outcomes/stdin >$@.new
+	cmp $@.new crates/outcomes/stdout
+	mv $@.new $@
+
+host-test: $(TESTS) build/outcomes.lines build/ormsvelg $(BENCH) $(BENCH2)
 	tools/x86 run build/test
 	tools/x86 run build/test_two
 	tools/x86 run build/test_solve
 	tools/x86 run build/test_widen
 	tools/x86 run build/test_write
 	tools/x86 run build/test_move
+	tools/x86 run build/test_rule $(CASES)
 	host/test_command.sh build/ormsvelg
 	host/test_bench.sh $(BENCH) $(BENCH2) build/ormsvelg
 	host/test_install.sh
@@ -106,13 +117,14 @@ else
 	@echo "skipped: sanitizers run on x86-64 alone"
 endif
 
-host-test-sanitized: $(TESTS:=-sanitized) build/ormsvelg-sanitized
+host-test-sanitized: $(TESTS:=-sanitized) build/outcomes.lines build/ormsvelg-sanitized
 	tools/x86 run build/test-sanitized
 	tools/x86 run build/test_two-sanitized
 	tools/x86 run build/test_solve-sanitized
 	tools/x86 run build/test_widen-sanitized
 	tools/x86 run build/test_write-sanitized
 	tools/x86 run build/test_move-sanitized
+	tools/x86 run build/test_rule-sanitized $(CASES)
 	host/test_command.sh build/ormsvelg-sanitized
 
 build/drive: host/drive.c tools/x86 $(LIBRARY)
