@@ -50,7 +50,8 @@
 #define ORMSVELG_WRONG_LENGTH 7  /* answer ends early, or has bytes over: its length, or the first of them */
 #define ORMSVELG_OTHER_KIND 8    /* count of neither permitted kind after the counts before it: its first byte */
 #define ORMSVELG_NOT_A_BIT 9     /* table byte above 1: its offset */
-#define ORMSVELG_BREAKS_RULE 10  /* tables break a rule: the lowest such combination that is not excused */
+#define ORMSVELG_BREAKS_RULE 10  /* tables break a rule: the lowest such combination that is not excused; which rule they
+                                  * break there is not handed over */
 #define ORMSVELG_OUT_OF_RANGE 11 /* claim not below 2R, or combination not below 2^n: its two bytes' offset */
 #define ORMSVELG_NO_STEP 12      /* a step does not hold: the lowest such entry's number, from 0 */
 #define ORMSVELG_NO_OPPOSITE 13  /* opposite of the first claim is absent: 0 */
