@@ -17,7 +17,7 @@ COUNT ?=
 # The form of the job sheets.
 FORM ?= 1
 
-VERSION = 0.4.0
+VERSION = 0.5.0
 PREFIX ?= /usr/local
 LIBRARY = target/staticlib/libormsvelg.a
 BENCH = target/bin/bench
