@@ -58,7 +58,7 @@ fn named_answers(form: Form, _: &mut Random) -> Vec<Case> {
     let mut cases = vec![
         case(of(J1), hex("01 00 00 01 00 00 00 00"), Some(tables_20)),
         case(of(J2), tables(&[0, 0], &[1, 1]).sheet(), Some(tables_20)),
-        case(of(J2), tables(&[0, 0], &[0, 0]).sheet(), Some(refused(10, 0))),
+        case(of(J2), tables(&[0, 0], &[0, 0]).sheet(), Some(Outcome::rule_broken(0, 0))),
         case(of(J3), walk(&[(0, 2), (7, 3), (3, 3), (6, 2), (1, 0), (5, 0)]).sheet(), Some(walk_21)),
         case(of(J4), walk(&[(0, 0), (2, 0), (1, 0), (2, 0)]).sheet(), Some(walk_21)),
         case(of(J5), tables(&[0], &[1]).sheet(), Some(tables_20)),
@@ -85,18 +85,18 @@ fn named_excused() -> Vec<Case> {
     let cases = [
         (J4, EMPTY, tables(&[0], &[0]), tables_20),
         (J4, EMPTY, walk(&[(0, 0), (2, 0), (1, 0), (2, 0)]), refused(12, 0)),
-        (J2, FIRST_IS_0, equal.clone(), refused(10, 1)),
-        (J2, FIRST_IS_1, equal.clone(), refused(10, 0)),
-        (J2, FIRST_IS_BOTH, equal.clone(), refused(10, 0)),
+        (J2, FIRST_IS_0, equal.clone(), Outcome::rule_broken(1, 0)),
+        (J2, FIRST_IS_1, equal.clone(), Outcome::rule_broken(0, 0)),
+        (J2, FIRST_IS_BOTH, equal.clone(), Outcome::rule_broken(0, 0)),
         (J2, FIRST_IS_EITHER, equal, tables_20),
         (J7, FIRST_IS_1, tables(&[0], &[0]), tables_20),
-        (J7, FIRST_IS_1, tables(&[0], &[1]), refused(10, 0)),
-        (J7, FIRST_IS_0, tables(&[0], &[0]), refused(10, 1)),
+        (J7, FIRST_IS_1, tables(&[0], &[1]), Outcome::rule_broken(0, 0)),
+        (J7, FIRST_IS_0, tables(&[0], &[0]), Outcome::rule_broken(1, 1)),
         (J7, FIRST_IS_1, stands.clone(), refused(12, 0)),
         (J7, FIRST_IS_0, stands.clone(), refused(12, 2)),
         (J7, FIRST_IS_BOTH, stands, Outcome::success(21)),
         (SPEED_WIRES, NOT_BOTH_HIGH, tables(&[0, 1], &[0, 1]), tables_20),
-        (SPEED_WIRES, NONE, tables(&[0, 1], &[0, 1]), refused(10, 3)),
+        (SPEED_WIRES, NONE, tables(&[0, 1], &[0, 1]), Outcome::rule_broken(3, 2)),
     ];
     cases.map(|(job, excuses, answer, known)| case(with_excuses(job, excuses), answer.sheet(), Some(known))).into()
 }

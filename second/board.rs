@@ -1,6 +1,6 @@
 // What a job means: the row that a combination shows, the rules that hold at it, whether it is excused, the steps
-// between claims. Everything is taken from the definitions of document 01 and of request 2 of document 02, term by
-// term, without masks or tables.
+// between claims. Everything is taken from the definitions of document 01 and of requests 2 and 4 of document 02, term
+// by term, without masks or tables.
 // It leans on job.
 
 use crate::job::Job;
@@ -76,6 +76,11 @@ impl Board {
         self.shown(cell, combination) + cell * self.rows(0)
     }
 
+    /// What A and B are set to at the combination: the tables' values in the rows that it shows.
+    pub fn values(&self, tables: &[Vec<u8>; 2], combination: Combination) -> [u8; 2] {
+        [0, 1].map(|cell| tables[cell][self.shown(cell, combination)])
+    }
+
     /// The cell that a claim's row belongs to.
     pub fn cell(&self, claim: Claim) -> usize {
         usize::from(claim.row() >= self.rows(0))
@@ -83,7 +88,16 @@ impl Board {
 
     /// Whether some rule is broken at the combination with A and B set to these values.
     pub fn breaks(&self, combination: Combination, values: [u8; 2]) -> bool {
-        self.job.rules.iter().any(|rule| !rule.iter().any(|term| self.is_true(*term, combination, values)))
+        self.job.rules.iter().any(|rule| !self.holds(rule, combination, values))
+    }
+
+    /// The lowest-numbered of the rules broken there, from 0, or that none is.
+    pub fn broken_rule(&self, combination: Combination, values: [u8; 2]) -> Option<usize> {
+        self.job.rules.iter().position(|rule| !self.holds(rule, combination, values))
+    }
+
+    pub fn holds(&self, rule: &[u8], combination: Combination, values: [u8; 2]) -> bool {
+        rule.iter().any(|term| self.is_true(*term, combination, values))
     }
 
     fn is_true(&self, term: u8, combination: Combination, values: [u8; 2]) -> bool {

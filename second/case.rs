@@ -50,7 +50,6 @@ impl fmt::Display for Known {
     }
 }
 
-#[derive(PartialEq, Eq)]
 pub struct Response {
     pub outcome: Outcome,
     /// The slices that the call may write, as it left them.
@@ -58,6 +57,11 @@ pub struct Response {
 }
 
 impl Response {
+    /// Whether the two are equal in all that the C face hands over: the four packed numbers and the written slices.
+    pub fn equals_as_handed_over(&self, other: &Response) -> bool {
+        self.outcome.handed_over() == other.outcome.handed_over() && self.after == other.after
+    }
+
     /// What the call wrote by its own account, in its first slice and no longer than that.
     pub fn written(&self) -> &[u8] {
         let length = (self.outcome.written as usize).min(self.after[0].len());

@@ -12,7 +12,6 @@ use crate::read::read_job;
 const WRONG_LENGTH: u8 = 7;
 const WRONG_COUNT: u8 = 8;
 const NO_TABLE_BYTE: u8 = 9;
-const RULE_BROKEN: u8 = 10;
 const NUMBER_TOO_HIGH: u8 = 11;
 const NO_STEP: u8 = 12;
 const NO_OPPOSITE: u8 = 13;
@@ -25,24 +24,25 @@ pub fn check_outcome(form: Form, job: &[u8], answer: &[u8]) -> Outcome {
     };
     match check(&Board::of(job), answer) {
         Ok(code) => Outcome::success(code),
-        Err(refusal) => Outcome::refused(refusal, ANSWER),
+        Err(outcome) => outcome,
     }
 }
 
-/// The code of an accepted answer, or the fault that decides.
-pub fn check(board: &Board, sheet: &[u8]) -> Result<u8, Refusal> {
-    match read_answer(board, sheet)? {
+/// The code of an accepted answer, or the refusal by the fault that decides.
+pub fn check(board: &Board, sheet: &[u8]) -> Result<u8, Outcome> {
+    let of_answer = |refusal| Outcome::refused(refusal, ANSWER);
+    match read_answer(board, sheet).map_err(of_answer)? {
         Answer::Tables(tables) => test_tables(board, &tables),
-        Answer::Walk(walk) => test_walk(board, &walk),
+        Answer::Walk(walk) => test_walk(board, &walk).map_err(of_answer),
     }
 }
 
-fn test_tables(board: &Board, tables: &[Vec<u8>; 2]) -> Result<u8, Refusal> {
-    for place in 0..board.combinations() {
-        let combination = Combination(place);
-        let values = [0, 1].map(|cell| tables[cell][board.shown(cell, combination)]);
-        if !board.is_excused(combination) && board.breaks(combination, values) {
-            return Err(Refusal { code: RULE_BROKEN, place });
+/// The lowest combination that is not excused and at which a rule is broken decides, and there the lowest rule.
+fn test_tables(board: &Board, tables: &[Vec<u8>; 2]) -> Result<u8, Outcome> {
+    for combination in (0..board.combinations()).map(Combination) {
+        let broken = board.broken_rule(combination, board.values(tables, combination));
+        if let Some(rule) = broken.filter(|_| !board.is_excused(combination)) {
+            return Err(Outcome::rule_broken(combination.0, rule));
         }
     }
     Ok(TABLES)

@@ -239,7 +239,7 @@ fn judge_cases(call: &Call, cases: &Receiver<Case>, responses: &mut Responses) -
 fn agree(call: &Call, case: &Case, got: &Response, judgement: &Judgement) -> bool {
     let Judgement { expected, fault } = judgement;
     let otherwise = case.known.as_ref().filter(|known| !known.agrees(expected));
-    if got == expected && fault.is_none() && otherwise.is_none() {
+    if got.equals_as_handed_over(expected) && fault.is_none() && otherwise.is_none() {
         return true;
     }
     println!("{}: responses differ", call);

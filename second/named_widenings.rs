@@ -41,6 +41,11 @@ fn refused(code: u8, place: usize, sheet: u64) -> Known {
     Known::Outcome(Outcome::refused(Refusal { code, place }, sheet))
 }
 
+/// At this combination this rule of P is the lowest-numbered one that is broken.
+fn broken(place: usize, rule: usize) -> Known {
+    Known::Outcome(Outcome::rule_broken(place, rule))
+}
+
 fn more_asked() -> Known {
     refused(14, 0, JOB_Q)
 }
@@ -94,7 +99,7 @@ fn named_orders(of: &dyn Fn(&str) -> Vec<u8>) -> Vec<Named> {
         (of(J7), hex(""), Vec::new(), 0, refused(1, 0, JOB_Q)),
         (of(J7), over, Vec::new(), 0, refused(5, length - 1, JOB_Q)),
         (of(J7), of(J1), Vec::new(), 0, refused(7, 0, ANSWER)),
-        (of(J7), of(J1), tables(&[0], &[1]), 0, refused(10, 0, ANSWER)),
+        (of(J7), of(J1), tables(&[0], &[1]), 0, broken(0, 0)),
         (of(J7), of(J1), walk(&[(2, 1), (1, 1), (3, 1), (1, 0)]), 0, refused(12, 2, ANSWER)),
         (of(J7), of(J1), stands, 0, refused(15, 0, ANSWER)),
         (of(J6), of(J1), tables(&[0], &[0, 1]), 0, more_asked()),
@@ -123,7 +128,7 @@ fn named_excused() -> Vec<Named> {
         of_j7(EMPTY, FIRST_IS_EITHER, more_asked()),
         of_j7(FIRST_IS_EITHER, EMPTY, widened()),
         of_j7(FIRST_IS_EITHER, FIRST_IS_1, more_asked()),
-        of_j7(FIRST_IS_0, EMPTY, refused(10, 1, ANSWER)),
+        of_j7(FIRST_IS_0, EMPTY, broken(1, 1)),
         // An excuse that never holds counts all the same.
         of_j6(FIRST_IS_BOTH, NONE, more_asked()),
         of_j6(FIRST_IS_BOTH, FIRST_IS_0, fits(&[0, 0], &[0, 1])),

@@ -18,9 +18,9 @@ pub fn widen(form: Form, p: &[u8], q: &[u8], answer: &[u8], room: usize) -> Resu
     let p = read_job(form, p).map_err(|refusal| Outcome::refused(refusal, JOB))?;
     let q = read_job(form, q).map_err(|refusal| Outcome::refused(refusal, JOB_Q))?;
     let board = Board::of(p.clone());
-    let of_answer = |refusal| Outcome::refused(refusal, ANSWER);
-    check(&board, answer).map_err(of_answer)?;
-    let Answer::Tables(tables) = read_answer(&board, answer).map_err(of_answer)? else {
+    check(&board, answer)?;
+    let read = read_answer(&board, answer).expect("the checker has read it");
+    let Answer::Tables(tables) = read else {
         return Err(walk_given());
     };
     if !asks_no_more(&q, &p) {
