@@ -1,11 +1,14 @@
 // The second program: judges by the papers alone, and compares with the proved library.
 // It is written apart from the library, so that an error in both at the same place is unlikely.
 // Usage: compare [--seed N] [--count N] -- COMMAND ARGS..   The command speaks the protocol of host/drive.c.
-// It leans on compare for the comparison.
+//        compare --outcomes <BOOK            The lines that the program `outcomes` must print for a case book.
+//        compare --differing LINES <BOOK     The first case for which the file has other lines.
+// It leans on compare for the comparison, and on book and outcomes for case books.
 
 mod answer;
 mod answers;
 mod board;
+mod book;
 mod case;
 mod check;
 mod compare;
@@ -24,6 +27,7 @@ mod moving;
 mod named;
 mod named_widenings;
 mod outcome;
+mod outcomes;
 mod pipe;
 mod random;
 mod read;
@@ -39,14 +43,76 @@ mod widenings;
 mod wider;
 mod write;
 
+use book::{read_book, BookCase};
 use compare::{compare_all, Settings};
+use std::io::{self, Read, Write};
 use std::process::ExitCode;
 
-const USAGE: &str = "usage: compare [--seed N] [--count N] -- COMMAND ARGS..";
+const USAGE: &str = "usage: compare [--seed N] [--count N] -- COMMAND ARGS..
+       compare --outcomes <BOOK
+       compare --differing LINES <BOOK";
 const SEED: u64 = 1;
 
+/// A difference was found.
+const FAILED: u8 = 1;
+/// What is given can't be used.
+const UNUSABLE: u8 = 2;
+
 fn main() -> ExitCode {
-    match settings(std::env::args().skip(1)).and_then(|settings| compare_all(&settings)) {
+    let arguments: Vec<String> = std::env::args().skip(1).collect();
+    let words: Vec<&str> = arguments.iter().map(String::as_str).collect();
+    let ended = match words[..] {
+        ["--outcomes"] => print_outcomes(),
+        ["--differing", lines] => show_difference(lines),
+        _ => return compare_with(arguments.into_iter()),
+    };
+    match ended {
+        Ok(()) => ExitCode::SUCCESS,
+        Err((status, message)) => {
+            eprintln!("compare: {message}");
+            ExitCode::from(status)
+        }
+    }
+}
+
+/// The exit status and what is said along.
+type Failure = (u8, String);
+
+fn unusable(message: impl ToString) -> Failure {
+    (UNUSABLE, message.to_string())
+}
+
+fn failed(message: impl ToString) -> Failure {
+    (FAILED, message.to_string())
+}
+
+fn print_outcomes() -> Result<(), Failure> {
+    let lines = outcomes::lines(&given_book()?);
+    print_bytes(lines.as_bytes())
+}
+
+fn show_difference(lines: &str) -> Result<(), Failure> {
+    let printed = std::fs::read(lines).map_err(|error| unusable(format!("{lines} can't be read: {error}")))?;
+    match outcomes::first_difference(&given_book()?, &String::from_utf8_lossy(&printed)) {
+        Some(difference) => Err(failed(difference)),
+        None => Ok(()),
+    }
+}
+
+/// The book on standard input.
+fn given_book() -> Result<Vec<BookCase>, Failure> {
+    let mut book = Vec::new();
+    io::stdin().read_to_end(&mut book).map_err(unusable)?;
+    read_book(&book).map_err(unusable)
+}
+
+fn print_bytes(bytes: &[u8]) -> Result<(), Failure> {
+    io::stdout().write_all(bytes).map_err(failed)
+}
+
+/// The comparison over the C face.
+fn compare_with(arguments: impl Iterator<Item = String>) -> ExitCode {
+    match settings(arguments).and_then(|settings| compare_all(&settings)) {
         Ok(cases) => {
             println!("compare: {cases} cases equal");
             ExitCode::SUCCESS
