@@ -5,6 +5,9 @@
 
 use crate::job::Form;
 
+/// A book has no more cases, and a sheet in it no more bytes.
+pub const MOST: usize = 65535;
+
 pub struct BookCase {
     /// As the book has it; it may be no form's.
     pub form_byte: u8,
@@ -14,6 +17,14 @@ pub struct BookCase {
 }
 
 impl BookCase {
+    pub fn of(form: Form, p: Vec<u8>, q: Vec<u8>, answer: Vec<u8>) -> BookCase {
+        let form_byte = match form {
+            Form::One => 1,
+            Form::Two => 2,
+        };
+        BookCase { form_byte, p, q, answer }
+    }
+
     /// Any byte but 2 stands for form one.
     pub fn form(&self) -> Form {
         match self.form_byte {
@@ -25,6 +36,24 @@ impl BookCase {
     pub fn sheets(&self) -> [&Vec<u8>; 3] {
         [&self.p, &self.q, &self.answer]
     }
+}
+
+pub fn write_book(cases: &[BookCase]) -> Vec<u8> {
+    let mut book = Vec::new();
+    put_number(&mut book, cases.len());
+    for case in cases {
+        book.push(case.form_byte);
+        for sheet in case.sheets() {
+            put_number(&mut book, sheet.len());
+            book.extend_from_slice(sheet);
+        }
+    }
+    book
+}
+
+fn put_number(book: &mut Vec<u8>, number: usize) {
+    let bytes = u16::try_from(number).expect("a book's numbers have two bytes").to_le_bytes();
+    book.extend_from_slice(&bytes);
 }
 
 /// The cases of a book, or what is wrong with it.

@@ -3,12 +3,14 @@
 // Usage: compare [--seed N] [--count N] -- COMMAND ARGS..   The command speaks the protocol of host/drive.c.
 //        compare --outcomes <BOOK            The lines that the program `outcomes` must print for a case book.
 //        compare --differing LINES <BOOK     The first case for which the file has other lines.
-// It leans on compare for the comparison, and on book and outcomes for case books.
+//        compare --book SEED COUNT >BOOK     A book of so many cases; what it meets is told on standard error.
+// It leans on compare for the comparison, and on book, outcomes, make_book and kinds for case books.
 
 mod answer;
 mod answers;
 mod board;
 mod book;
+mod broken;
 mod case;
 mod check;
 mod compare;
@@ -21,10 +23,14 @@ mod expand;
 mod given;
 mod job;
 mod jobs;
+mod kinds;
 mod make;
+mod make_book;
 mod moves;
 mod moving;
 mod named;
+mod named_broken;
+mod named_others;
 mod named_widenings;
 mod outcome;
 mod outcomes;
@@ -32,6 +38,7 @@ mod pipe;
 mod random;
 mod read;
 mod room;
+mod settled;
 mod shapes;
 mod solve;
 mod spoil;
@@ -43,17 +50,18 @@ mod widenings;
 mod wider;
 mod write;
 
-use book::{read_book, BookCase};
+use book::{read_book, write_book, BookCase};
 use compare::{compare_all, Settings};
 use std::io::{self, Read, Write};
 use std::process::ExitCode;
 
 const USAGE: &str = "usage: compare [--seed N] [--count N] -- COMMAND ARGS..
        compare --outcomes <BOOK
-       compare --differing LINES <BOOK";
+       compare --differing LINES <BOOK
+       compare --book SEED COUNT >BOOK";
 const SEED: u64 = 1;
 
-/// A difference was found.
+/// A difference was found, or a book can't be made as it must be.
 const FAILED: u8 = 1;
 /// What is given can't be used.
 const UNUSABLE: u8 = 2;
@@ -64,6 +72,7 @@ fn main() -> ExitCode {
     let ended = match words[..] {
         ["--outcomes"] => print_outcomes(),
         ["--differing", lines] => show_difference(lines),
+        ["--book", seed, count] => print_book(seed, count),
         _ => return compare_with(arguments.into_iter()),
     };
     match ended {
@@ -97,6 +106,15 @@ fn show_difference(lines: &str) -> Result<(), Failure> {
         Some(difference) => Err(failed(difference)),
         None => Ok(()),
     }
+}
+
+fn print_book(seed: &str, count: &str) -> Result<(), Failure> {
+    let (Ok(seed), Ok(count)) = (seed.parse(), count.parse()) else {
+        return Err(unusable(USAGE));
+    };
+    let cases = make_book::make_book(seed, count).map_err(failed)?;
+    eprint!("{}", kinds::coverage(&cases).map_err(failed)?);
+    print_bytes(&write_book(&cases))
 }
 
 /// The book on standard input.
