@@ -7,12 +7,14 @@
 #   make run, read, check FORM=2      the same for a job sheet of form two
 #   make install PREFIX=/usr/local    the command, its manual page, the library, its header and its pkg-config file
 #   make host-test                    the C tests over the static library, the command's, the bench programs' and the installation's
-#   make compare SEED=1 COUNT=50000   random cases, so many of each call, against the independent second program
+#   make compare SEED=1 COUNT=50000   random cases, so many of each call, and case books, against the independent second program
 #   make speed                        the library's times against plain C++, native
 
 SEED ?= 1
 # Without a count each call has its own.
 COUNT ?=
+# The cases of the random case book.
+BOOK_CASES = 2000
 
 # The form of the job sheets.
 FORM ?= 1
@@ -135,7 +137,13 @@ build/second/compare: $(wildcard second/*.rs)
 	@mkdir -p build/second
 	rustc -O --edition 2021 -o $@ second/main.rs
 
-compare: build/drive build/second/compare
+# The stored case book's lines are the second program's, and so are those that the program `outcomes` prints for a random book.
+compare: build/drive build/second/compare $(OUTCOMES)
+	build/second/compare --outcomes <crates/outcomes/stdin | cmp - crates/outcomes/stdout
+	build/second/compare --book $(SEED) $(BOOK_CASES) >build/book
+	build/second/compare --outcomes <build/book >build/book.second
+	tools/x86 run $(OUTCOMES) <build/book >build/book.lines
+	cmp build/book.second build/book.lines || { build/second/compare --differing build/book.lines <build/book; exit 1; }
 	build/second/compare --seed $(SEED) $(COUNT:%=--count %) -- tools/x86 run build/drive
 
 build/native/libormsvelg.a: $(PROVED) tools/native-archive
