@@ -1,6 +1,6 @@
 // The case book of the program `outcomes`: cases for the checker and the widener, each with the form of its job sheets.
-// All numbers are low byte first: two bytes, how many cases; then each case as one byte, the form, and three sheets, job
-// P, job Q and the answer, each as two bytes of length and then so many bytes. Nothing follows.
+// All numbers are low byte first: two bytes, how many cases; then each case as one byte, the form, and three sheets,
+// job P, job Q and the answer, each as two bytes of length and then so many bytes. Nothing follows.
 // It leans on job.
 
 use crate::job::Form;

@@ -1,6 +1,6 @@
 // Makes random jobs with many rules, and tables that break one of them.
-// Where a job has a pair that fits, a value or two of it are turned, so that few rules are broken and any of them may be
-// the lowest; where the tables are random, many are. In form two the lowest combinations may be excused.
+// Where a job has a pair that fits, a value or two of it are turned, so that few rules are broken and any of them may
+// be the lowest; where the tables are random, many are. In form two the lowest combinations may be excused.
 // It leans on random, job, make, shapes, spoil, board, answer, check and outcome.
 
 use crate::answer::Answer;

@@ -1,5 +1,5 @@
 // What a case book must meet: every code of the checker and the widener that a case can get, in both forms, and code 10
-// of every kind that a program with a usual error would answer wrongly. A book that misses one of them is refused.
+// of every kind that a program with a usual error would answer wrongly. A book that misses one of them is not made.
 // It leans on book, outcomes, answer, board, check, read, job and outcome.
 
 use crate::answer::Answer;
@@ -170,7 +170,7 @@ fn always_holds(rule: &[u8]) -> bool {
     rule.iter().any(|term| rule.contains(&(term ^ 1)))
 }
 
-/// Whether the rule that the widener tells would have another number by Q's order of the same rules.
+/// Whether the widener tells a rule, and Q has the same rules in an order by which it would be another number.
 fn reordered_in_q(met: &Met) -> bool {
     let (Some(broken), Ok(q)) = (&met.broken, read_job(met.case.form(), &met.case.q)) else {
         return false;
@@ -180,7 +180,8 @@ fn reordered_in_q(met: &Met) -> bool {
         rules.sort();
         rules
     };
-    q.wires() == broken.board.wires()
+    met.outcomes.widen.code == RULE_BROKEN as u64
+        && q.wires() == broken.board.wires()
         && in_order(&q.rules) == in_order(broken.rules())
         && q.rules.iter().position(|rule| broken.breaks(rule)) != Some(broken.rule)
 }

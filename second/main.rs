@@ -125,7 +125,8 @@ fn given_book() -> Result<Vec<BookCase>, Failure> {
 }
 
 fn print_bytes(bytes: &[u8]) -> Result<(), Failure> {
-    io::stdout().write_all(bytes).map_err(failed)
+    let mut out = io::stdout();
+    out.write_all(bytes).and_then(|()| out.flush()).map_err(failed)
 }
 
 /// The comparison over the C face.

@@ -1,4 +1,4 @@
-// Hand-made cases of code 10: which rule is told, and which ones a program with a usual error would tell.
+// Hand-made cases of code 10, each with the rule that must be told; a program with a usual error would tell another.
 // Each case's comment says what it shows.
 // It leans on settled and job.
 
@@ -33,9 +33,9 @@ fn without_wires(form: Form) -> Vec<Settled> {
         broken(&[&[]], ZEROS, 0),
         // The rule before it holds.
         broken(&[&[a], &[b]], [&[1], &[0]], 1),
-        // Two rules are broken, the first two: the last one broken is another.
+        // The first two are broken, and the first is told.
         broken(&[&[a], &[b], &[not_a]], ZEROS, 0),
-        // The last three are broken.
+        // The last three are broken, and the first of these is told.
         broken(&[&[not_a], &[a], &[b], &[a, b]], ZEROS, 1),
         // The same rule again.
         broken(&[&[not_a], &[b], &[b]], ZEROS, 1),
@@ -80,7 +80,7 @@ fn many_rules(form: Form) -> Vec<Settled> {
         broken(0, MOST_RULES),
         // The rule for which a technician would hunt through two hundred.
         broken(200, 1),
-        // A number on both sides of a byte's half.
+        // Numbers on both sides of a byte's half.
         broken(127, 2),
         broken(128, 1),
     ]
@@ -139,6 +139,7 @@ fn widened(form: Form) -> Vec<Settled> {
     let [a, not_a, b, not_b] = cell_terms(0);
     let of = |rules: &[&[u8]]| blind_job(form, 0, rules);
     let wider = |p: &[&[u8]], q: Job, rule| Settled::broken_with_q(&of(p), &q, ZEROS, 0, rule);
+    let [one_a, ..] = cell_terms(1);
     vec![
         // Q has the rule first.
         wider(&[&[not_a], &[not_b], &[a]], of(&[&[a], &[not_a], &[not_b]]), 2),
@@ -151,7 +152,7 @@ fn widened(form: Form) -> Vec<Settled> {
         // Q has no rules, so that the tables would fit it.
         wider(&[&[not_a], &[a]], of(&[]), 1),
         // Q asks more, by its wire; that is looked for later.
-        wider(&[&[not_a], &[a]], blind_job(form, 1, &[&[2]]), 1),
+        wider(&[&[not_a], &[a]], blind_job(form, 1, &[&[one_a]]), 1),
     ]
 }
 

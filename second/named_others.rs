@@ -13,7 +13,7 @@ use crate::named::{in_form, J1, J4, J5, J6, J6_WIDENED, J7};
 use crate::outcome::{Outcome, Refusal, ANSWER, JOB, JOB_Q, TABLES, WALK};
 use crate::settled::{blind_job, cell_terms, tables_sheet, Settled};
 
-/// One wire that A sees and must copy: rule 0 is broken where A is 1 and the wire 0, rule 1 where A is 0 and the wire 1.
+/// One wire that A sees and must copy. Rule 0 is broken where A is 1 and the wire 0, rule 1 where it is the other way.
 const COPY: &str = "01 04 01 00 00 02 00 02 00 03 02 01 02";
 /// Tables for it: they fit; they break rule 1.
 const FITTING: [&[u8]; 2] = [&[0, 1], &[0]];

@@ -1,5 +1,5 @@
-// A hand-made case of a case book, with the outcomes that a close reading of the papers settles, and what such cases are
-// made of.
+// A hand-made case of a case book, with the outcomes that a close reading of the papers settles, and what such cases
+// are made of.
 // It leans on book, job, answer and outcome.
 
 use crate::answer::Answer;
