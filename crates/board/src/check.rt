@@ -49,7 +49,8 @@ fn judge_tables(h: JobHead, masks: &[u32], answer: &[u8]) -> Outcome
     let combinations: u32 = 1 << h.wires;
     let mut a: u32 = 0;
     while a < combinations {
-        let fault = fault_at(h, masks, answer, Combination(a as u16));
+        let number = a as u16;
+        let fault = fault_at(h, masks, answer, Combination(number));
         if let Broken::Rule(rule) = fault {
             return rule_broken(a as usize, rule);
         }

@@ -47,8 +47,8 @@ shl-combinations c = search needs
 loop-holds : tie.Need-loop-holds Inv-loop μ-loop
 loop-holds c = (omega arith, search-start _ _)
 
-cast-t9 : tie.Need-cast-t9 Inv-loop μ-loop
-cast-t9 c =
+cast-number : tie.Need-cast-number Inv-loop μ-loop
+cast-number c =
     let most = pow-mono (c .before .before .before .before .before .pre .0 .wires) in
     omega arith
 
@@ -110,7 +110,7 @@ judge-tables-spec =
     μ-loop
     shl-combinations
     loop-holds
-    cast-t9
+    cast-number
     fault-at-requires
     enum-known-fault
     cast-rule-broken
