@@ -8,28 +8,25 @@
 --     no-pair           where it says 21 no pair fits
 -- Assumes nothing.
 use mathlib.Core.Path.{_≡_, refl, sym, ap, subst, _∙_}
-use mathlib.Core.Bool.{Bool, true, false, not, false≢true, true≢false}
-use mathlib.Core.List.{List, [], _∷_, _++_}
+use mathlib.Core.Bool.{Bool, true, false, not, false≢true}
+use mathlib.Core.List.{List, _++_}
 use mathlib.Core.Logic.{_↔_, by-cases}
-use Prim.Native.Nat.{ℕ, zero, suc, _+_, _*_, _-_, _^_, _<_, _≤_}
-use native.Mathlib.Decide.{decLt, ℕ-discrete}
+use Prim.Native.Nat.{ℕ, suc, _+_, _*_, _-_, _<_, _≤_}
+use native.Mathlib.Decide.{decLt}
 use native.Mathlib.Numerals.{add-one}
 use native.Mathlib.Omega.{arith}
 use borrow.Author.Tests.{lt-ltb, le-ltb, eq-eqb, ne-eqb, not-false}
 use lib.Count.{ones}
 use lib.Pow.{pow-pos}
-use lib.Dec.{ltb, eqb}
 use lib.ListN.{length, getD, length-append, List·getD-append}
 use lib.Seq.{getD-append-add}
 use Rattle.wires.proofs.Rows.{row-below}
 use Rattle.steps.specs.declared.Outcome.{Outcome}
-use Rattle.steps.specs.declared.Refusal.{Refusal}
-use Rattle.steps.specs.Step.{pick}
 use Rattle.steps.specs.Outcome.{success, refusal, ruleBroken, refusedJob, refusedAnswer}
 use Rattle.sheet.specs.declared.Form.{Form}
 use Rattle.sheet.specs.Job.{Job, Verdict, accepted, rejected}
 use Rattle.sheet.specs.JobSheet.{readJob}
-use Rattle.answer.specs.Answer.{Entry, Answer, tables, walk, AnswerVerdict, answered}
+use Rattle.answer.specs.Answer.{Entry, tables, walk, AnswerVerdict, answered}
 use Rattle.answer.specs.Answer.{rejected as unanswered}
 use Rattle.answer.specs.AnswerSheet.{readAnswer}
 use Rattle.answer.specs.Written.{tablesSheet, walkSheet, Bytes, IsPair, IsWalk}
@@ -38,9 +35,9 @@ use Rattle.answer.proofs.Sheets.{tables-read, walk-read, tables-sheet, walk-she
 use Rattle.board.specs.Board.{Board, Shows, rows, opposite}
 use Rattle.board.specs.Tables.{held, Tables, Fits, Pair}
 use Rattle.board.specs.Walk.{entry, Step, Among, Stands, StandsAt}
-use Rattle.board.specs.Tests.{lowest, stepb, amongb}
+use Rattle.board.specs.Tests.{lowest, amongb}
 use Rattle.board.specs.JobBoard.{boardOf, jobBoard}
-use Rattle.board.specs.Check.{faultAt, ruleAt, tablesAt, judgeTables, nextOf, stepAt, walkAt, judgeWalk, judge, judgeSheet, afterJob, checkOutcome}
+use Rattle.board.specs.Check.{faultAt, ruleAt, judgeTables, nextOf, stepAt, judgeWalk, judge, judgeSheet, afterJob, checkOutcome}
 use Rattle.board.proofs.Tests.{stepb-iff, amongb-iff}
 use Rattle.board.proofs.Numbered.{stands-iff, among-at, at-among}
 use Rattle.board.proofs.Lowest.{lowest-at, lowest-least, lowest-most}

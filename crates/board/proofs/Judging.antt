@@ -21,15 +21,15 @@ use Rattle.sheet.specs.declared.JobHead.{JobHead}
 use Rattle.sheet.specs.JobSheet.{wireLimit}
 use Rattle.answer.specs.declared.AnswerRead.{AnswerRead}
 use Rattle.answer.specs.declared.AnswerRead.the-variants.{Tables, Walk, Refused}
-use Rattle.answer.specs.Answer.{Entry, Answer, tables, walk, AnswerVerdict, answered, rejected}
+use Rattle.answer.specs.Answer.{Entry, tables, walk, AnswerVerdict, answered, rejected}
 use Rattle.answer.specs.AnswerSheet.{readAnswer}
 use Rattle.answer.specs.AnswerFound.{asAnswer}
 use Rattle.answer.proofs.There.{tables-there, walk-there}
-use Rattle.board.specs.Board.{Board, atB}
+use Rattle.board.specs.Board.{atB}
 use Rattle.board.specs.Tables.{held}
 use Rattle.board.specs.JobBoard.{headBoard}
 use Rattle.board.specs.Tests.{lowest}
-use Rattle.board.specs.Check.{faultAt, ruleAt, tablesAt, judgeTables, judgeWalk, judgeSheet}
+use Rattle.board.specs.Check.{faultAt, ruleAt, tablesAt, judgeTables, judgeSheet}
 use Rattle.board.specs.Places.{rowA, rowB, faultIn, ruleIn, walkIn, TablesIn, WalkIn}
 use Rattle.board.proofs.Lowest.{lowest-same}
 use Rattle.board.proofs.Walking.{Placed, walk-in}

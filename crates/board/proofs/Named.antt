@@ -4,7 +4,6 @@
 --     BreaksSheet, check-10      and so does the sheet of such tables, and no other
 -- Assumes nothing.
 use mathlib.Core.Path.{_≡_, refl, sym, ap, subst, _∙_}
-use mathlib.Core.Bool.{false, false≢true}
 use mathlib.Core.List.{List, _++_}
 use mathlib.Core.Logic.{_↔_}
 use Prim.Native.Nat.{ℕ, _<_}
@@ -16,7 +15,7 @@ use lib.ListN.{length, getD}
 use lib.Pow.{pow-pos}
 use Rattle.wires.specs.Terms.{Holds, Breaks, Excused}
 use Rattle.steps.specs.declared.Outcome.{Outcome}
-use Rattle.steps.specs.Outcome.{success, ruleBroken, refusedJob, refusedAnswer}
+use Rattle.steps.specs.Outcome.{success, ruleBroken, refusedJob}
 use Rattle.steps.proofs.Codes.{answer-code-bounds}
 use Rattle.sheet.specs.declared.Form.{Form}
 use Rattle.sheet.specs.Job.{Job, Verdict, accepted, rejected}
@@ -30,7 +29,7 @@ use Rattle.answer.proofs.Sheets.{tables-read, tables-sheet}
 use Rattle.board.specs.Board.{Board, atB}
 use Rattle.board.specs.Tables.{held}
 use Rattle.board.specs.Tests.{lowest}
-use Rattle.board.specs.JobBoard.{brokenRule, jobBoard}
+use Rattle.board.specs.JobBoard.{jobBoard}
 use Rattle.board.specs.Check.{faultAt, ruleAt, tablesAt, judgeTables, judge, judgeSheet, afterJob, checkOutcome}
 use Rattle.board.proofs.Lowest.{lowest-at, lowest-least, lowest-is}
 use Rattle.board.proofs.Rules.{fails, faultb-iff, counted-holds, rule-among, rule-breaks, rule-least, rule-is}

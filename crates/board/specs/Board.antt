@@ -3,7 +3,6 @@
 --     Shows       each combination shows a row that the cell has
 --     row, value, opposite   claim 2r says that row r holds 0, claim 2r+1 that it holds 1
 -- Assumes nothing.
-use mathlib.Core.Path.{_≡_}
 use mathlib.Core.Bool.{Bool}
 use Prim.Native.Nat.{ℕ, _+_, _*_, _-_, _/_, _%_, _<_}
 

@@ -9,7 +9,6 @@ use sheet::JobHead;
 use sheet::JobRead;
 use sheet::MASKS;
 use steps::Outcome;
-use steps::Refusal;
 use steps::refused;
 use steps::refused_answer;
 use steps::refused_job;

@@ -11,7 +11,7 @@ use lib.Seq.{getD-take, getD-drop}
 use Rattle.wires.specs.Terms.{Truths, FirstBroken, someWithin}
 use Rattle.sheet.specs.declared.JobHead.{JobHead}
 use Rattle.board.specs.declared.Broken.the-variants.{Rule, None}
-use Rattle.board.specs.JobBoard.{breaksb, excusedb, headBoard, Sized}
+use Rattle.board.specs.JobBoard.{excusedb, headBoard, Sized}
 use Rattle.board.specs.Tested.{tested}
 use Rattle.board.proofs.Rules.{behind, behind-is, excuses-there, excused-by, first-breaks, first-rule, first-none}
 use Rattle.board.proofs.test.Statement.{statement}
