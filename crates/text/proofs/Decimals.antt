@@ -1,15 +1,16 @@
 -- Numbers in decimal.
 --     decimal-one, decimal-more      the digits of a number below 10, and of one from 10 on: those of its tenth, and its last
 --     decimal-some                   there is a digit
---     decimal-two, decimal-three, decimal-four      at most two digits below 100, three below 1,000, four below 10,000
+--     decimal-short                  at most k digits below 10 ^ k
 --     long-one, long-more            how many digits there are, by the same cases
 --     stored-one, stored-more        a store of the last digit makes the run of all digits
---     more-length, more-room         the run of a tenth's digits keeps the buffer's length, and there is room after it
+--     tenth-room                     there is room for the digits of a tenth
+--     more-length, more-room         their run keeps the buffer's length, and there is room after it
 -- Assumes nothing.
 use mathlib.Core.Path.{_≡_, refl, sym, ap, _∙_}
 use mathlib.Core.Logic.{_⊎_, inl, inr, ⊎-elim}
 use mathlib.Core.List.{List, [], _∷_, _++_}
-use Prim.Native.Nat.{ℕ, zero, suc, _+_, _/_, _%_, _<_, _≤_}
+use Prim.Native.Nat.{ℕ, zero, suc, _+_, _/_, _%_, _^_, _<_, _≤_}
 use native.Mathlib.Decide.{decLt}
 use native.Mathlib.Omega.{arith}
 use lib.ListN.{length, set, length-append}
@@ -62,23 +63,22 @@ long-more n h = ap length (decimal-more n h) ∙ length-append (decimal (n / 10)
 pub decimal-some : (n : ℕ) → 1 ≤ length (decimal n)
 decimal-some n = ⊎-elim (λ e. omega (arith, long-one n e)) (λ e. omega (arith, long-more n e)) (low-or-high n)
 
--- one digit more than the tenth has
-step : (n k : ℕ) → 1 ≤ k → (10 ≤ n → length (decimal (n / 10)) ≤ k) → length (decimal n) ≤ k + 1
-step n k h f = ⊎-elim (λ e. omega (arith, long-one n e)) (λ e. omega (arith, long-more n e, f e)) (low-or-high n)
-
-pub decimal-two : (n : ℕ) → n < 100 → length (decimal n) ≤ 2
-decimal-two n h = step n 1 (omega arith) (λ e. omega (arith, long-one (n / 10) (omega arith)))
-
-pub decimal-three : (n : ℕ) → n < 1000 → length (decimal n) ≤ 3
-decimal-three n h = step n 2 (omega arith) (λ e. decimal-two (n / 10) (omega arith))
-
-pub decimal-four : (n : ℕ) → n < 10000 → length (decimal n) ≤ 4
-decimal-four n h = step n 3 (omega arith) (λ e. decimal-three (n / 10) (omega arith))
+pub decimal-short : (k n : ℕ) → 1 ≤ k → n < 10 ^ k → length (decimal n) ≤ k
+decimal-short zero n h few = absurd (omega arith)
+decimal-short (suc zero) n h few = omega (arith, long-one n few)
+decimal-short (suc (suc k)) n h few =
+    ⊎-elim
+    (λ e. omega (arith, long-one n e))
+    (λ e. omega (arith, long-more n e, decimal-short (suc k) (n / 10) (omega arith) (omega arith)))
+    (low-or-high n)
 
 -- a number's only digit is stored, or its last digit after those of its tenth
 module _ (l : List ℕ) (at n : ℕ) where
   pub stored-one : n < 10 → (at + 1 ≡ at + length (decimal n)) × (set l at (48 + n) ≡ sets l at (decimal n))
   stored-one h = (omega (arith, long-one n h), ap (λ (xs : List ℕ). sets l at xs) (sym (decimal-one n h)))
+
+  pub tenth-room : 10 ≤ n → at + length (decimal n) ≤ length l → at + length (decimal (n / 10)) ≤ length l
+  tenth-room some room = omega (arith, long-more n some)
 
   module _ (l₁ : List ℕ) (m : ℕ) (some : 10 ≤ n) (e : l₁ ≡ sets l at (decimal (n / 10))) (p : m ≡ at + length (decimal (n / 10))) where
     pub stored-more : (m + 1 ≡ at + length (decimal n)) × (set l₁ m (48 + n % 10) ≡ sets l at (decimal n))
@@ -91,5 +91,5 @@ module _ (l : List ℕ) (at n : ℕ) where
     pub more-length : length l₁ ≡ length l
     more-length = ap length e ∙ length-sets l at (decimal (n / 10))
 
-    pub more-room : n < 10000 → at + 4 ≤ length l → m < length l₁
-    more-room few room = omega (arith, more-length, decimal-three (n / 10) (omega arith))
+    pub more-room : at + length (decimal n) ≤ length l → m < length l₁
+    more-room room = omega (arith, more-length, long-more n some)

@@ -1,7 +1,7 @@
 -- How a call of the bench text ends, from how the solver's call ended.
 --     tables-found, walk-found                   what stands in a buffer that begins with a written sheet
 --     tables-end, walk-end, refused-end          what a code tells of the job and of the answer sheet
---     tables-ask, walk-ask, refused-ask          the printing functions have what they ask
+--     tables-ask, walk-ask                       the printing functions have what they ask
 --     tables-ends, walk-ends, refused-ends       what they print is what the call is to print
 --     texted-fits                                what is printed fits in the buffer
 -- Assumes nothing.
@@ -18,11 +18,8 @@ use Rattle.steps.specs.declared.Refusal.{Refusal}
 use Rattle.steps.specs.Outcome.{success, refusedJob}
 use Rattle.steps.proofs.Codes.{code-bounds}
 use Rattle.sheet.specs.declared.Form.{Form}
-use Rattle.sheet.specs.declared.Form.the-variants.{One, Two}
 use Rattle.sheet.specs.Job.{Job, accepted, rejected}
 use Rattle.sheet.specs.JobSheet.{readJob}
-use Rattle.sheet.specs.JobSheet.{longest as longestJob}
-use Rattle.sheet.proofs.Length.{place-small}
 use Rattle.sheet.proofs.Laws.{job-bounds, seen-bounds}
 use Rattle.answer.specs.Answer.{Entry}
 use Rattle.answer.specs.AnswerSheet.{longest}
@@ -134,11 +131,6 @@ walk-found s es q e =
     }
 
 -- ---- what a code tells
-
--- a job sheet is short enough for its places to be told in four digits
-job-short : (form : Form) → longestJob form + 1 < 10000
-job-short One = omega arith
-job-short Two = omega arith
 
 code-of : {o p : Outcome} → o ≡ p → o .code ≡ p .code
 code-of e = ap (λ (x : Outcome). x .code) e
@@ -258,11 +250,6 @@ module _ (form : Form) (job entry s : List ℕ) (o : Outcome) (room : longest �
           combinations = λ i h. let l : i < length (t .es) = omega arith in omega (arith, f .by i l, t .walks .combination i l);
           room = large;
         }
-
-    pub refused-ask : (o .code ≡ 20 → ⊥) → (o .code ≡ 21 → ⊥) → (o .place < 10000) × (longestText ≤ length out)
-    refused-ask m n =
-        let t = refused-end sol m n in
-        (omega (arith, ap (λ (x : Outcome). x .place) (t .outcome), place-small form job (t .why) (t .is), job-short form), large)
 
     -- ---- what they print
 

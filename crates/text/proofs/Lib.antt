@@ -1,5 +1,6 @@
 pub mod Decimals
+pub mod Pieces
+pub mod Numbered
 pub mod Tables
 pub mod Lines
-pub mod Refusing
 pub mod Ends

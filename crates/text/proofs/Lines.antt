@@ -3,7 +3,7 @@
 --     Lined                        i lines are written: the whole text is what stands, and what is left from here on
 --     lined-start, lined-turn, lined-end      at the start, after a turn, and at the end
 --     same-room                    the buffer is as long as at the call
---     line-asks                    there is room for the next line, and its numbers are small
+--     line-room                    there is room for the next line
 -- Assumes nothing.
 use mathlib.Core.Path.{_≡_, refl, sym, ap, _∙_}
 use mathlib.Core.List.{List, [], _∷_, _++_}
@@ -19,7 +19,7 @@ use Rattle.solver.proofs.Writing.{wrote}
 use Rattle.text.specs.Decimal.{decimal}
 use Rattle.text.specs.Text.{headWalk, lineOf, lines, walkText}
 use Rattle.text.specs.Printing.{entriesFrom, Prints, WalkAsk, walkOf}
-use Rattle.text.proofs.Decimals.{decimal-four}
+use Rattle.text.proofs.Decimals.{decimal-short}
 
 abbrev entryOf : (claim combination : ℕ) → Entry
 entryOf claim combination = record { says = claim; by = combination }
@@ -27,7 +27,7 @@ entryOf claim combination = record { says = claim; by = combination }
 pub line-short : (e : Entry) → e .says < 10000 → e .by < 10000 → length (lineOf e) ≤ 10
 line-short e a b =
     let l : length (lineOf e) ≡ length (decimal (e .says)) + suc (length (decimal (e .by))) + 1 = simp length-append (omega arith) in
-    omega (arith, decimal-four (e .says) a, decimal-four (e .by) b)
+    omega (arith, decimal-short 4 (e .says) (omega arith) a, decimal-short 4 (e .by) (omega arith) b)
 
 module _ (s : List ℕ) (n : ℕ) where
   abbrev whole : List ℕ
@@ -72,11 +72,14 @@ module _ (s : List ℕ) (n : ℕ) where
       small-combination : combination < 10000
       small-combination = omega (arith, ask .combinations i (omega arith))
 
-      pub line-asks : (at + 10 ≤ length out) × (claim < 10000) × (combination < 10000)
-      line-asks = (omega (arith, inv .most, same-room, ask .most, ask .room), small-claim, small-combination)
-
       abbrev line : List ℕ
       line = lineOf (entryOf claim combination)
+
+      short : length line ≤ 10
+      short = line-short (entryOf claim combination) small-claim small-combination
+
+      pub line-room : at + length line ≤ length out
+      line-room = omega (arith, short, inv .most, same-room, ask .most, ask .room)
 
       more-left : left i ≡ line ++ left (i + 1)
       more-left = left-more i more ∙ ap (λ (e : Entry). lineOf e ++ left (i + 1)) (λ k. entryOf (sym c k) (sym b k))
@@ -85,7 +88,7 @@ module _ (s : List ℕ) (n : ℕ) where
       lined-turn out₂ at₂ e p = record {
         within = omega arith;
         same = ap length e ∙ length-sets out at line ∙ inv .same;
-        most = omega (arith, inv .most, line-short (entryOf claim combination) small-claim small-combination);
+        most = omega (arith, inv .most, short);
         run = inv .run ∙ ap (sets out at) more-left ∙ sets-append out at line (left (i + 1)) ∙ rw (e, p);
         long = omega (arith, inv .long, ap length more-left, length-append line (left (i + 1)));
       }

@@ -1,7 +1,7 @@
 -- The cycle of calls {write_decimal} meets its contract: the measure is the number. Assumes nothing.
 use borrow.Author.Needs.{needs}
 use native.Mathlib.Omega.{arith}
-use Rattle.text.proofs.Decimals.{stored-one, stored-more, more-length, more-room}
+use Rattle.text.proofs.Decimals.{decimal-some, stored-one, stored-more, tenth-room, more-length, more-room}
 use mathlib.Core.Path.{_∙_}
 use lib.ListN.{length-set}
 use Prim.Native.Nat.{ℕ, _<_}
@@ -45,7 +45,7 @@ write-decimal-slice-write-out : (t : ℕ) → write-decimal-lts.Need-slice-write
   write-decimal-below t,
   write-decimal.Post,
 ) (write-decimal-at t) write-decimal.Post
-write-decimal-slice-write-out t c = search needs
+write-decimal-slice-write-out t c = omega (arith, decimal-some (c .before .before .args .n))
 
 write-decimal-add-result : (t : ℕ) → write-decimal-lts.Need-add-result (
   write-decimal-below t,
@@ -71,7 +71,9 @@ write-decimal-write-decimal-requires : (t : ℕ) → write-decimal-lts.Need-writ
   write-decimal-below t,
   write-decimal.Post,
 ) (write-decimal-at t) write-decimal.Post
-write-decimal-write-decimal-requires t c κs = search needs
+write-decimal-write-decimal-requires t c κs =
+    let start = c .before .before .before in
+    (omega arith, tenth-room (start .args .out .now) (start .args .at) (start .args .n) (omega arith) (start .pre .1))
 
 write-decimal-add-out-2 : (t : ℕ) → write-decimal-lts.Need-add-out-2 (
   write-decimal-below t,
@@ -92,7 +94,7 @@ write-decimal-slice-write-out-2 : (t : ℕ) → write-decimal-lts.Need-slice-wri
 write-decimal-slice-write-out-2 t c =
     let called = c .before .before in
     let start = called .before .before .before .before in
-    more-room (start .args .out .now) (start .args .at) (start .args .n) (called .write-decimal .last .0) (called .write-decimal .result) (omega arith) (called .write-decimal .ensures .1) (called .write-decimal .ensures .0) (start .pre .1 .1) (start .pre .1 .0)
+    more-room (start .args .out .now) (start .args .at) (start .args .n) (called .write-decimal .last .0) (called .write-decimal .result) (omega arith) (called .write-decimal .ensures .1) (called .write-decimal .ensures .0) (start .pre .1)
 
 write-decimal-add-result-2 : (t : ℕ) → write-decimal-lts.Need-add-result-2 (
   write-decimal-below t,
@@ -101,7 +103,7 @@ write-decimal-add-result-2 : (t : ℕ) → write-decimal-lts.Need-add-result-2 (
 write-decimal-add-result-2 t c =
     let called = c .before .before in
     let start = called .before .before .before .before in
-    let within = more-room (start .args .out .now) (start .args .at) (start .args .n) (called .write-decimal .last .0) (called .write-decimal .result) (omega arith) (called .write-decimal .ensures .1) (called .write-decimal .ensures .0) (start .pre .1 .1) (start .pre .1 .0) in
+    let within = more-room (start .args .out .now) (start .args .at) (start .args .n) (called .write-decimal .last .0) (called .write-decimal .result) (omega arith) (called .write-decimal .ensures .1) (called .write-decimal .ensures .0) (start .pre .1) in
     record { fits = omega (arith, within, more-length (start .args .out .now) (start .args .at) (start .args .n) (called .write-decimal .last .0) (called .write-decimal .result) (omega arith) (called .write-decimal .ensures .1) (called .write-decimal .ensures .0), start .good .0 .0) }
 
 write-decimal-same-length-2 : (t : ℕ) → write-decimal-lts.Need-same-length-2 (

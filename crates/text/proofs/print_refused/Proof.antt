@@ -1,64 +1,53 @@
--- `text::print_refused` meets its contract: seven pieces make the line. Assumes nothing.
+-- `text::print_refused` meets its contract: three texts make the line. Assumes nothing.
+use mathlib.Core.List.{[], _∷_}
+use Prim.Native.Nat.{_≤_}
 use native.Mathlib.Omega.{arith}
 use borrow.Author.Needs.{needs}
-use Rattle.text.proofs.Refusing.{room₁, room₂, room₃, room₄, room₅, room₆, refused-room, refused-prints}
+use lib.ListN.{length}
+use Rattle.text.specs.Text.{headRefused, refusedText}
+use Rattle.text.specs.Numbers.{firstThree}
+use Rattle.text.proofs.Pieces.{Three, three}
+use Rattle.text.proofs.Numbered.{refused-short}
+use Rattle.text.proofs.Tables.{printed}
 use Rattle.text.proofs.print_refused.Statement.{statement}
 use Rattle.text.proofs.print_refused.Tie as tie
+
+fits : (start : tie.Start) → length (refusedText (start .args .o)) ≤ length (start .args .out .now)
+fits start = omega (arith, refused-short (start .args .o) (omega arith) (omega arith) (omega arith), start .pre)
+
+pieces : (start : tie.Start) → Three (start .args .out .now) 0 headRefused (firstThree (start .args .o)) (10 ∷ [])
+pieces start = three _ _ _ _ _ (omega (arith, fits start))
 
 slice-aggregate-write-rows : tie.Need-slice-aggregate-write-rows
 slice-aggregate-write-rows c = search needs
 
 write-rows-requires : tie.Need-write-rows-requires
-write-rows-requires c κs = omega (arith, c .before .before .before .pre .1)
+write-rows-requires c κs = search needs
 
-cast-write-decimal : tie.Need-cast-write-decimal
-cast-write-decimal c = search needs
-
-write-decimal-requires : tie.Need-write-decimal-requires
-write-decimal-requires c κs =
-    let f = c .before .before .before .before .before .before .before .before in
-    (room₁ (f .args .o) (f .args .out .now) (f .pre) (c .before .before .before .before .write-rows .ensures), omega arith)
+write-first-three-requires : tie.Need-write-first-three-requires
+write-first-three-requires c κs =
+    let head = c .before .before .before in
+    let start = head .before .before .before .before in
+    pieces start .second (head .write-rows .ensures)
 
 write-byte-requires : tie.Need-write-byte-requires
 write-byte-requires c κs =
-    let f = c .before .before .before .before .before .before .before .before .before .before .before .before in
-    room₂ (f .args .o) (f .args .out .now) (f .pre) (c .before .before .before .before .before .before .before .before .write-rows .ensures) (omega arith) (c .before .before .before .write-decimal .ensures)
-
-cast-write-decimal-2 : tie.Need-cast-write-decimal-2
-cast-write-decimal-2 c = search needs
-
-write-decimal-requires-2 : tie.Need-write-decimal-requires-2
-write-decimal-requires-2 c κs =
-    let f = c .before .before .before .before .before .before .before .before .before .before .before .before .before .before .before .before .before in
-    (room₃ (f .args .o) (f .args .out .now) (f .pre) (c .before .before .before .before .before .before .before .before .before .before .before .before .before .write-rows .ensures) (omega arith) (c .before .before .before .before .before .before .before .before .write-decimal .ensures) (c .before .before .before .before .write-byte .ensures), omega arith)
-
-write-byte-requires-2 : tie.Need-write-byte-requires-2
-write-byte-requires-2 c κs =
-    let f = c .before .before .before .before .before .before .before .before .before .before .before .before .before .before .before .before .before .before .before .before .before in
-    room₄ (f .args .o) (f .args .out .now) (f .pre) (c .before .before .before .before .before .before .before .before .before .before .before .before .before .before .before .before .before .write-rows .ensures) (omega arith) (c .before .before .before .before .before .before .before .before .before .before .before .before .write-decimal .ensures) (c .before .before .before .before .before .before .before .before .write-byte .ensures) (omega arith) (c .before .before .before .write-decimal2 .ensures)
-
-cast-write-decimal-3 : tie.Need-cast-write-decimal-3
-cast-write-decimal-3 c = search needs
-
-write-decimal-requires-3 : tie.Need-write-decimal-requires-3
-write-decimal-requires-3 c κs =
-    let f = c .before .before .before .before .before .before .before .before .before .before .before .before .before .before .before .before .before .before .before .before .before .before .before .before .before .before in
-    (room₅ (f .args .o) (f .args .out .now) (f .pre) (c .before .before .before .before .before .before .before .before .before .before .before .before .before .before .before .before .before .before .before .before .before .before .write-rows .ensures) (omega arith) (c .before .before .before .before .before .before .before .before .before .before .before .before .before .before .before .before .before .write-decimal .ensures) (c .before .before .before .before .before .before .before .before .before .before .before .before .before .write-byte .ensures) (omega arith) (c .before .before .before .before .before .before .before .before .write-decimal2 .ensures) (c .before .before .before .before .write-byte2 .ensures), f .pre .0)
-
-write-byte-requires-3 : tie.Need-write-byte-requires-3
-write-byte-requires-3 c κs =
-    let f = c .before .before .before .before .before .before .before .before .before .before .before .before .before .before .before .before .before .before .before .before .before .before .before .before .before .before .before .before .before .before in
-    room₆ (f .args .o) (f .args .out .now) (f .pre) (c .before .before .before .before .before .before .before .before .before .before .before .before .before .before .before .before .before .before .before .before .before .before .before .before .before .before .write-rows .ensures) (omega arith) (c .before .before .before .before .before .before .before .before .before .before .before .before .before .before .before .before .before .before .before .before .before .write-decimal .ensures) (c .before .before .before .before .before .before .before .before .before .before .before .before .before .before .before .before .before .write-byte .ensures) (omega arith) (c .before .before .before .before .before .before .before .before .before .before .before .before .write-decimal2 .ensures) (c .before .before .before .before .before .before .before .before .write-byte2 .ensures) (c .before .before .before .write-decimal3 .ensures)
+    let place = c .before .before .before in
+    let head = place .before .before .before .before in
+    let start = head .before .before .before .before in
+    pieces start .third (head .write-rows .ensures) (place .write-first-three .ensures)
 
 same-length : tie.Need-same-length
-same-length c =
-    let f = c .before .before .before .before .before .before .before .before .before .before .before .before .before .before .before .before .before .before .before .before .before .before .before .before .before .before .before .before .before .before .before .before .before in
-    refused-room (f .args .o) (f .args .out .now) (f .pre) (c .before .before .before .before .before .before .before .before .before .before .before .before .before .before .before .before .before .before .before .before .before .before .before .before .before .before .before .before .before .write-rows .ensures) (omega arith) (c .before .before .before .before .before .before .before .before .before .before .before .before .before .before .before .before .before .before .before .before .before .before .before .before .write-decimal .ensures) (c .before .before .before .before .before .before .before .before .before .before .before .before .before .before .before .before .before .before .before .before .write-byte .ensures) (omega arith) (c .before .before .before .before .before .before .before .before .before .before .before .before .before .before .before .write-decimal2 .ensures) (c .before .before .before .before .before .before .before .before .before .before .before .write-byte2 .ensures) (c .before .before .before .before .before .before .write-decimal3 .ensures) (c .before .before .write-byte3 .ensures)
+same-length c = search needs
 
 returns : tie.Need-returns
 returns c =
-    let f = c .before .before .before .before .before .before .before .before .before .before .before .before .before .before .before .before .before .before .before .before .before .before .before .before .before .before .before .before .before .before .before .before .before in
-    refused-prints (f .args .o) (f .args .out .now) (f .pre) (c .before .before .before .before .before .before .before .before .before .before .before .before .before .before .before .before .before .before .before .before .before .before .before .before .before .before .before .before .before .write-rows .ensures) (omega arith) (c .before .before .before .before .before .before .before .before .before .before .before .before .before .before .before .before .before .before .before .before .before .before .before .before .write-decimal .ensures) (c .before .before .before .before .before .before .before .before .before .before .before .before .before .before .before .before .before .before .before .before .write-byte .ensures) (omega arith) (c .before .before .before .before .before .before .before .before .before .before .before .before .before .before .before .write-decimal2 .ensures) (c .before .before .before .before .before .before .before .before .before .before .before .write-byte2 .ensures) (c .before .before .before .before .before .before .write-decimal3 .ensures) (c .before .before .write-byte3 .ensures)
+    let end = c .before .before in
+    let place = end .before .before .before .before in
+    let head = place .before .before .before .before in
+    let start = head .before .before .before .before in
+    let all = pieces start .all (head .write-rows .ensures) (place .write-first-three .ensures) (end .write-byte .ensures) in
+    printed (refusedText (start .args .o)) _ _ _ (fits start) (omega (arith, all .0)) (all .1)
 
 pub print-refused-spec : {M : Type 1} → statement M
 print-refused-spec =
@@ -66,14 +55,7 @@ print-refused-spec =
     (tie.spec
     slice-aggregate-write-rows
     write-rows-requires
-    cast-write-decimal
-    write-decimal-requires
+    write-first-three-requires
     write-byte-requires
-    cast-write-decimal-2
-    write-decimal-requires-2
-    write-byte-requires-2
-    cast-write-decimal-3
-    write-decimal-requires-3
-    write-byte-requires-3
     same-length
     returns)

@@ -8,23 +8,19 @@ use Rattle.text.proofs.print_tables.Tie as tie
 word-at-requires : tie.Need-word-at-requires
 word-at-requires c κs = search needs
 
-cast-rows-a : tie.Need-cast-rows-a
-cast-rows-a c = search needs
-
 add-word-at : tie.Need-add-word-at
 add-word-at c = search needs
 
 word-at-requires-2 : tie.Need-word-at-requires-2
 word-at-requires-2 c κs = search needs
 
-cast-rows-b : tie.Need-cast-rows-b
-cast-rows-b c = search needs
-
 add-first : tie.Need-add-first
 add-first c = search needs
 
 add-last : tie.Need-add-last
-add-last c = search needs
+add-last c =
+    let f = c .before .before .before .before in
+    omega (arith, there _ (f .args .out .now) (f .pre) _ _ (c .before .word-at .ensures) (c .word-at2 .ensures))
 
 add-end-a : tie.Need-add-end-a
 add-end-a c = search needs
@@ -112,10 +108,8 @@ print-tables-spec =
     tie.close
     (tie.spec
     word-at-requires
-    cast-rows-a
     add-word-at
     word-at-requires-2
-    cast-rows-b
     add-first
     add-last
     add-end-a

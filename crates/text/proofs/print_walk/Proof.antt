@@ -2,7 +2,7 @@
 use Prim.Native.Nat.{_-_}
 use native.Mathlib.Omega.{arith}
 use borrow.Author.Needs.{needs}
-use Rattle.text.proofs.Lines.{Lined, lined-start, same-room, lined-turn, line-asks, lined-end}
+use Rattle.text.proofs.Lines.{Lined, lined-start, same-room, lined-turn, line-room, lined-end}
 use Rattle.text.proofs.print_walk.Statement.{statement}
 use Rattle.text.proofs.print_walk.Tie as tie
 
@@ -14,9 +14,6 @@ abbrev μ-loop : tie.MeasureT-loop
 
 word-at-requires : tie.Need-word-at-requires Inv-loop μ-loop
 word-at-requires c κs = omega (arith, c .before .before .pre .there)
-
-cast-count : tie.Need-cast-count Inv-loop μ-loop
-cast-count c = search needs
 
 slice-aggregate-write-rows : tie.Need-slice-aggregate-write-rows Inv-loop μ-loop
 slice-aggregate-write-rows c = search needs
@@ -49,7 +46,7 @@ write-line-requires : tie.Need-write-line-requires Inv-loop μ-loop
 write-line-requires c κs =
     let f = c .before .before .before .before .before .before .before .before .before .before .before .before .before in
     let w = c .before .before .before .before .before .before .before .write-rows .ensures in
-    line-asks _ _ _ (f .pre) (c .before .before .before .before .before .before .before .before .before .before .word-at .ensures) _ _ (w .1) (w .0) _ _ _ (c .before .before .before .before .loop .inv) (c .before .before .before .loop-test .taken) _ _ (c .before .word-at2 .ensures) (c .word-at3 .ensures)
+    line-room _ _ _ (f .pre) (c .before .before .before .before .before .before .before .before .before .before .word-at .ensures) _ _ (w .1) (w .0) _ _ _ (c .before .before .before .before .loop .inv) (c .before .before .before .loop-test .taken) _ _ (c .before .word-at2 .ensures) (c .word-at3 .ensures)
 
 add-i : tie.Need-add-i Inv-loop μ-loop
 add-i c = search needs
@@ -82,7 +79,6 @@ print-walk-spec =
     Inv-loop
     μ-loop
     word-at-requires
-    cast-count
     slice-aggregate-write-rows
     write-rows-requires
     loop-holds

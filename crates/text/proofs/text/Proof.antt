@@ -3,7 +3,7 @@ use mathlib.Core.Path.{refl}
 use native.Mathlib.Omega.{arith}
 use borrow.Author.Needs.{needs}
 use Rattle.text.specs.Text.{noRoom}
-use Rattle.text.proofs.Ends.{tables-ask, walk-ask, refused-ask, tables-ends, walk-ends, refused-ends}
+use Rattle.text.proofs.Ends.{tables-ask, walk-ask, tables-ends, walk-ends, refused-ends}
 use Rattle.text.proofs.text.Statement.{statement}
 use Rattle.text.proofs.text.Tie as tie
 
@@ -50,7 +50,7 @@ returns-3 : tie.Need-returns-3
 returns-3 c = walk-ends _ _ _ _ _ (omega arith) (c .before .before .before .before .before .before .before .before .before .solve .ensures) _ (omega (arith, c .before .before .before .before .before .before .before .before .before .before .before .if1 .left)) _ _ _ (c .succeeded2 .ensures) (c .before .before .before .before .before .before .if3 .taken) (c .before .before .before .print-walk .ensures)
 
 print-refused-requires : tie.Need-print-refused-requires
-print-refused-requires c κs = refused-ask _ _ _ _ _ (omega arith) (c .before .before .before .before .solve .ensures) (c .before .before .before .before .before .before .before .before .before .args .out .now) (omega (arith, c .before .before .before .before .before .before .if1 .left)) (c .before .before .if2 .left) (c .before .if3 .left)
+print-refused-requires c κs = search needs
 
 succeeded-requires-3 : tie.Need-succeeded-requires-3
 succeeded-requires-3 c κs = search needs
