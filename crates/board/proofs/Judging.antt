@@ -28,6 +28,7 @@ use Rattle.answer.proofs.There.{tables-there, walk-there}
 use Rattle.board.specs.Board.{atB}
 use Rattle.board.specs.Tables.{held}
 use Rattle.board.specs.JobBoard.{headBoard}
+use Rattle.board.specs.Tested.{tested, ruleOf}
 use Rattle.board.specs.Tests.{lowest}
 use Rattle.board.specs.Check.{faultAt, ruleAt, tablesAt, judgeTables, judgeSheet}
 use Rattle.board.specs.Places.{rowA, rowB, faultIn, ruleIn, walkIn, TablesIn, WalkIn}
@@ -83,7 +84,7 @@ module _ (h : JobHead) (masks s : List ℕ) where
     same-fault a = ap₂ (headBoard h masks .breaks a) (same-a a) (same-b a)
 
     same-rule : (a : ℕ) → ruleIn h masks s a ≡ ruleAt (headBoard h masks) (xs ++ ys) a
-    same-rule a = ap₂ (headBoard h masks .rule a) (same-a a) (same-b a)
+    same-rule a = ap₂ (λ (x y : ℕ). ruleOf (tested (headBoard h masks) a x y)) (same-a a) (same-b a)
 
     pub tables-judged : tablesAt (headBoard h masks) (ruleIn h masks s) (lowest (faultIn h masks s) (2 ^ h .wires)) ≡ judgeSheet (headBoard h masks) s
     unfolding judgeSheet judgeTables

@@ -4,6 +4,7 @@
 --     BreaksSheet, check-10      and so does the sheet of such tables, and no other
 -- Assumes nothing.
 use mathlib.Core.Path.{_≡_, refl, sym, ap, subst, _∙_}
+use mathlib.Core.Bool.{true}
 use mathlib.Core.List.{List, _++_}
 use mathlib.Core.Logic.{_↔_}
 use Prim.Native.Nat.{ℕ, _<_}
@@ -13,7 +14,7 @@ use borrow.Author.Tests.{lt-ltb, le-ltb}
 use lib.Count.{ones}
 use lib.ListN.{length, getD}
 use lib.Pow.{pow-pos}
-use Rattle.wires.specs.Terms.{Holds, Breaks, Excused}
+use Rattle.wires.specs.Terms.{Holds, Breaks, Fault, Excused}
 use Rattle.steps.specs.declared.Outcome.{Outcome}
 use Rattle.steps.specs.Outcome.{success, ruleBroken, refusedJob}
 use Rattle.steps.proofs.Codes.{answer-code-bounds}
@@ -33,6 +34,7 @@ use Rattle.board.specs.JobBoard.{jobBoard}
 use Rattle.board.specs.Check.{faultAt, ruleAt, tablesAt, judgeTables, judge, judgeSheet, afterJob, checkOutcome}
 use Rattle.board.proofs.Lowest.{lowest-at, lowest-least, lowest-is}
 use Rattle.board.proofs.Rules.{fails, faultb-iff, counted-holds, rule-among, rule-breaks, rule-least, rule-is}
+use Rattle.board.proofs.Tested.{tested-rule}
 use Rattle.board.proofs.Codes.{walk-not}
 use Rattle.board.proofs.Checked.{codes-differ, sheets-differ}
 
@@ -40,16 +42,26 @@ module _ (j : Job) (T : List ℕ) where
   abbrev B : Board
   B = jobBoard j
 
-  -- with A and B set to the rows that a combination shows: rule i holds there, or is broken
+  abbrev n : ℕ
+  n = length (j .pins)
+
+  -- what A and B are set to: the rows that the combination shows
+  abbrev cellA : ℕ → ℕ
+  cellA a = held T (B .showA a)
+
+  abbrev cellB : ℕ → ℕ
+  cellB a = held T (atB B a)
+
+  -- rule i holds there, or is broken
   abbrev pub Keeps : (a i : ℕ) → Type 0
-  Keeps a i = Holds (length (j .pins)) a (held T (B .showA a)) (held T (atB B a)) (getD (j .rules) i 0)
+  Keeps a i = Holds n a (cellA a) (cellB a) (getD (j .rules) i 0)
 
   abbrev pub BreaksRule : (a i : ℕ) → Type 0
-  BreaksRule a i = Breaks (length (j .pins)) a (held T (B .showA a)) (held T (atB B a)) (getD (j .rules) i 0)
+  BreaksRule a i = Breaks n a (cellA a) (cellB a) (getD (j .rules) i 0)
 
   -- the combination is not excused
   abbrev pub Unexcused : ℕ → Type 0
-  Unexcused a = Excused (length (j .pins)) (j .excuses) (length (j .excuses)) a → ⊥
+  Unexcused a = Excused n (j .excuses) (length (j .excuses)) a → ⊥
 
   pub record Named (place rule : ℕ) : Type 0 where
     pub combination : place < B .combinations
@@ -59,21 +71,25 @@ module _ (j : Job) (T : List ℕ) where
     pub lower-rules : (i : ℕ) → i < rule → Keeps place i
     pub lower-places : (a : ℕ) → a < place → Unexcused a → (i : ℕ) → i < length (j .rules) → Keeps a i
 
+  fault : (a : ℕ) → (faultAt B T a ≡ true) ↔ (Fault n (j .rules) (length (j .rules)) a (cellA a) (cellB a) × Unexcused a)
+  fault a = faultb-iff n (j .rules) (j .excuses) a (cellA a) (cellB a)
+
   abbrev low : ℕ
   low = lowest (faultAt B T) (B .combinations)
 
   named-low : low < B .combinations → Named low (ruleAt B T low)
   named-low h =
-      let f = faultb-iff (length (j .pins)) (j .rules) (j .excuses) low (held T (B .showA low)) (held T (atB B low)) .0 (lowest-at (faultAt B T) (B .combinations) h) in
-      let among = rule-among (length (j .pins)) (j .rules) low (held T (B .showA low)) (held T (atB B low)) (f .0) in record {
+      let here = lowest-at (faultAt B T) (B .combinations) h in
+      let f = fault low .0 here in
+      let among = rule-among n (j .rules) low (cellA low) (cellB low) (f .0) in
+      rw (tested-rule B low (cellA low) (cellB low) here) (record {
         combination = h;
         unexcused = f .1;
         among = among;
-        broken = rule-breaks (length (j .pins)) (j .rules) low (held T (B .showA low)) (held T (atB B low)) among;
-        lower-rules = rule-least (length (j .pins)) (j .rules) low (held T (B .showA low)) (held T (atB B low));
-        lower-places = λ a l free.
-            counted-holds (length (j .pins)) (j .rules) (j .excuses) a (held T (B .showA a)) (held T (atB B a)) (lowest-least (faultAt B T) (B .combinations) a l) free;
-      }
+        broken = rule-breaks n (j .rules) low (cellA low) (cellB low) among;
+        lower-rules = rule-least n (j .rules) low (cellA low) (cellB low);
+        lower-places = λ a l free. counted-holds n (j .rules) (j .excuses) a (cellA a) (cellB a) (lowest-least (faultAt B T) (B .combinations) a l) free;
+      })
 
   module _ (place rule : ℕ) where
     breaks-to : judgeTables B T ≡ ruleBroken place rule → Named place rule
@@ -86,17 +102,18 @@ module _ (j : Job) (T : List ℕ) where
             subst (λ (o : Outcome). Named (o .place) (o .rule)) same (named-low h)
         go (no h) = absurd (codes-differ (success 20 0) (ruleBroken place rule) (λ z. omega arith) (rw (le-ltb low (B .combinations) (omega arith)) at e))
 
+    there : Named place rule → faultAt B T place ≡ true
+    there g = fault place .1 ((rule, g .among, g .broken), g .unexcused)
+
     place-low : Named place rule → place ≡ low
     place-low g =
-        lowest-is (faultAt B T) (B .combinations) place (g .combination)
-        (faultb-iff (length (j .pins)) (j .rules) (j .excuses) place (held T (B .showA place)) (held T (atB B place)) .1 ((rule, g .among, g .broken), g .unexcused))
-        (λ a l. fails (faultAt B T a)
-        (λ e.
-        let f = faultb-iff (length (j .pins)) (j .rules) (j .excuses) a (held T (B .showA a)) (held T (atB B a)) .0 e in
-        f .0 .2 (g .lower-places a l (f .1) (f .0 .0) (f .0 .1))))
+        lowest-is (faultAt B T) (B .combinations) place (g .combination) (there g)
+        (λ a l. fails (faultAt B T a) (λ e. let f = fault a .0 e in f .0 .2 (g .lower-places a l (f .1) (f .0 .0) (f .0 .1))))
 
     rule-low : Named place rule → rule ≡ ruleAt B T place
-    rule-low g = rule-is (length (j .pins)) (j .rules) place (held T (B .showA place)) (held T (atB B place)) rule (g .among) (g .broken) (g .lower-rules)
+    rule-low g =
+        rule-is n (j .rules) place (cellA place) (cellB place) rule (g .among) (g .broken) (g .lower-rules)
+        ∙ sym (tested-rule B place (cellA place) (cellB place) (there g))
 
     breaks-from : Named place rule → judgeTables B T ≡ ruleBroken place rule
     unfolding judgeTables

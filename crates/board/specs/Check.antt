@@ -21,6 +21,7 @@ use Rattle.board.specs.Board.{Board, atB, opposite}
 use Rattle.board.specs.Tables.{held}
 use Rattle.board.specs.Walk.{entry}
 use Rattle.board.specs.Tests.{lowest, stepb, amongb}
+use Rattle.board.specs.Tested.{tested, ruleOf}
 use Rattle.board.specs.JobBoard.{jobBoard}
 
 module _ (B : Board) where
@@ -28,9 +29,9 @@ module _ (B : Board) where
   abbrev pub faultAt : List ℕ → ℕ → Bool
   faultAt T a = B .breaks a (held T (B .showA a)) (held T (atB B a))
 
-  -- the lowest rule broken then
+  -- the rule that the test tells then
   abbrev pub ruleAt : List ℕ → ℕ → ℕ
-  ruleAt T a = B .rule a (held T (B .showA a)) (held T (atB B a))
+  ruleAt T a = ruleOf (tested B a (held T (B .showA a)) (held T (atB B a)))
 
   -- 10: tables break a rule, at the lowest such combination; the outcome carries the lowest rule broken there. 20: tables
   abbrev pub tablesAt : (rule : ℕ → ℕ) → ℕ → Outcome

@@ -2,7 +2,7 @@
 --     wordAt                     two bytes, low byte first
 --     claimIn, combinationIn     a walk's entry i
 --     rowA, rowB                 the table bytes of the rows that a combination shows to A and to B
---     testedIn                   the test of one combination, with A and B set to these: some rule is broken, and the lowest
+--     faultIn, testedIn, ruleIn  with A and B set to these, some rule is broken; the test of the combination, and the rule that it tells
 --     stepIn                     the step of entry i holds
 --     walkIn                     the judgement of a walk of k entries
 --     TablesIn, WalkIn           what is known of a sheet of tables, and of a walk of k entries
@@ -22,7 +22,7 @@ use Rattle.steps.specs.Outcome.{success, refusal}
 use Rattle.board.specs.Board.{opposite}
 use Rattle.board.specs.JobBoard.{anyBelow, headBoard}
 use Rattle.board.specs.declared.Broken.{Broken}
-use Rattle.board.specs.Tested.{tested}
+use Rattle.board.specs.Tested.{tested, ruleOf}
 
 abbrev pub wordAt : List ℕ → ℕ → ℕ
 wordAt s at = getD s at 0 + 256 * getD s (at + 1) 0
@@ -42,11 +42,11 @@ rowB h s a = getD s (4 + 2 ^ ones (h .«sees_a») + shown (h .wires) (h .«sees_
 abbrev pub faultIn : JobHead → (masks s : List ℕ) → ℕ → Bool
 faultIn h masks s a = headBoard h masks .breaks a (rowA h s a) (rowB h s a)
 
-abbrev pub ruleIn : JobHead → (masks s : List ℕ) → ℕ → ℕ
-ruleIn h masks s a = headBoard h masks .rule a (rowA h s a) (rowB h s a)
-
 abbrev pub testedIn : JobHead → (masks s : List ℕ) → ℕ → Broken
 testedIn h masks s a = tested (headBoard h masks) a (rowA h s a) (rowB h s a)
+
+abbrev pub ruleIn : JobHead → (masks s : List ℕ) → ℕ → ℕ
+ruleIn h masks s a = ruleOf (testedIn h masks s a)
 
 -- the entry after entry i of k; after the last comes the first
 abbrev pub afterOf : (k i : ℕ) → ℕ

@@ -16,7 +16,8 @@ use Rattle.board.specs.Tests.{lowest}
 use Rattle.board.specs.Check.{tablesAt}
 use Rattle.board.specs.JobBoard.{headBoard}
 use Rattle.board.specs.Places.{rowA, rowB, faultIn, ruleIn, testedIn}
-use Rattle.board.proofs.Tested.{tested-rule, tested-none}
+use Rattle.board.specs.Tested.{isBroken, ruleOf}
+use Rattle.board.proofs.Tested.{tested-broken}
 use Rattle.board.proofs.Lowest.{Left, search-start, search-turn, search-found, search-end}
 use Rattle.board.proofs.check.judge_tables.Statement.{statement}
 use Rattle.board.proofs.check.judge_tables.Tie as tie
@@ -24,13 +25,16 @@ use Rattle.board.proofs.check.judge_tables.Tie as tie
 -- the search has come to the combination a; what the test told there
 module _ (h : JobHead) (masks s : List ℕ) (a : ℕ) (left : Left (faultIn h masks s) (2 ^ h .wires) a) where
   module _ (l : a < 2 ^ h .wires) (f : Broken) (told : f ≡ testedIn h masks s a) where
+    is-fault : isBroken f ≡ faultIn h masks s a
+    is-fault = ap isBroken told ∙ tested-broken (headBoard h masks) a (rowA h s a) (rowB h s a)
+
     broken : (r : ℕ) → f ≡ Rule r → (o : Outcome) → o ≡ ruleBroken a r → o ≡ tablesAt (headBoard h masks) (ruleIn h masks s) (lowest (faultIn h masks s) (2 ^ h .wires))
     broken r e o is =
-        let t = tested-rule (headBoard h masks) a (rowA h s a) (rowB h s a) r (sym e ∙ told) in
-        rw (← search-found (faultIn h masks s) (2 ^ h .wires) a l left (t .0), lt-ltb a (2 ^ h .wires) l) (is ∙ ap (ruleBroken a) (t .1))
+        rw (← search-found (faultIn h masks s) (2 ^ h .wires) a l left (sym is-fault ∙ ap isBroken e), lt-ltb a (2 ^ h .wires) l)
+        (is ∙ ap (ruleBroken a) (ap ruleOf (sym e ∙ told)))
 
     kept : f ≡ None → Left (faultIn h masks s) (2 ^ h .wires) (a + 1)
-    kept e = search-turn (faultIn h masks s) (2 ^ h .wires) a l left (tested-none (headBoard h masks) a (rowA h s a) (rowB h s a) (sym e ∙ told))
+    kept e = search-turn (faultIn h masks s) (2 ^ h .wires) a l left (sym is-fault ∙ ap isBroken e)
 
   sound : 2 ^ h .wires ≤ a → (o : Outcome) → o ≡ success 20 0 → o ≡ tablesAt (headBoard h masks) (ruleIn h masks s) (lowest (faultIn h masks s) (2 ^ h .wires))
   sound l o is = rw (← search-end (faultIn h masks s) (2 ^ h .wires) a l left, le-ltb a (2 ^ h .wires) l) is
