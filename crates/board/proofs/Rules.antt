@@ -6,7 +6,7 @@
 --     excusesb-iff    an excuse's terms are all true
 --     excusedb-iff    a combination is excused by a list
 --     faultb-iff      some rule is broken where it counts
---     counted-holds      where it counts and none is, each rule holds
+--     counted-holds   where it counts and none is, each rule holds
 --     rule-among, rule-breaks, rule-least     the lowest broken rule is a rule, is broken, and each below it holds
 --     rule-is         a rule of which this is true is the lowest broken one
 --     front-faultb    the same of a list that has the rules and then the excuses at its front

@@ -25,8 +25,9 @@ use Rattle.sheet.specs.declared.Form.{Form}
 use Rattle.sheet.specs.declared.Form.the-variants.{One, Two}
 use Rattle.sheet.specs.Job.{Job, Verdict, accepted, rejected}
 use Rattle.steps.specs.Step.{pick}
-use Rattle.steps.specs.Outcome.{codeOf, answerCodeOf, placeOf, success, refusal, ruleBroken, refusedJob, Ending, refusing, writing}
+use Rattle.steps.specs.Outcome.{codeOf, answerCodeOf, placeOf, success, refusal, ruleBroken, refusedJob, refusing, writing}
 use Rattle.steps.proofs.Codes.{code-bounds, answer-code-bounds}
+use Rattle.steps.proofs.Endings.{pick-has}
 use Rattle.sheet.specs.JobSheet.{readJob, outcomeOf, readOutcome}
 use Rattle.sheet.proofs.Length.{place-small, accepted-short}
 use Rattle.sheet.proofs.Forms.{form-two}
@@ -185,10 +186,6 @@ solve-found form job entry o exit r e s =
 
 -- ---- the widener
 
-pick-ending : (b : Bool) (e f : Ending) → Packs (e .outcome) → Packs (f .outcome) → Packs (pick b e f .outcome)
-pick-ending true e f p q = p
-pick-ending false e f p q = q
-
 module _ (P Q : Job) (s entry : List ℕ) (few : jobBoard P .combinations ≤ 2 ^ 12) (few-a : jobBoard P .rowsA ≤ 256) (few-b : jobBoard P .rowsB ≤ 256)
     (wide-a : jobBoard Q .rowsA ≤ 256) (wide-b : jobBoard Q .rowsB ≤ 256) where
   sheet-packs : (xs ys : List ℕ) → length (widenSheet P Q xs ys) < 2 ^ 24
@@ -199,14 +196,14 @@ module _ (P Q : Job) (s entry : List ℕ) (few : jobBoard P .combinations ≤ 2 
 
   judged-packs : (v : AnswerVerdict) → readAnswer (jobBoard P .rowsA) (jobBoard P .rowsB) (jobBoard P .combinations) s ≡ v → Packs (judged P Q v entry .outcome)
   judged-packs (answered (tables xs ys)) e =
-      pick-ending (eqb (judgeTables (jobBoard P) (xs ++ ys) .code) 20) (fitting P Q xs ys entry) (refusing (judgeTables (jobBoard P) (xs ++ ys)) entry)
-      (pick-ending (asksb P Q) (pick (ltb (length entry) longestAnswer) (refusing (refusal 6 0 0) entry) (writing 20 (widenSheet P Q xs ys) entry)) (refusing (refusal 14 3 0) entry)
-      (pick-ending (ltb (length entry) longestAnswer) (refusing (refusal 6 0 0) entry) (writing 20 (widenSheet P Q xs ys) entry)
+      pick-has Packs (eqb (judgeTables (jobBoard P) (xs ++ ys) .code) 20) (fitting P Q xs ys entry) (refusing (judgeTables (jobBoard P) (xs ++ ys)) entry)
+      (pick-has Packs (asksb P Q) (pick (ltb (length entry) longestAnswer) (refusing (refusal 6 0 0) entry) (writing 20 (widenSheet P Q xs ys) entry)) (refusing (refusal 14 3 0) entry)
+      (pick-has Packs (ltb (length entry) longestAnswer) (refusing (refusal 6 0 0) entry) (writing 20 (widenSheet P Q xs ys) entry)
       (refusal-packs 6 0 0 (omega arith) (omega arith) (omega arith)) (success-packs 20 (length (widenSheet P Q xs ys)) (omega arith) (sheet-packs xs ys)))
       (refusal-packs 14 3 0 (omega arith) (omega arith) (omega arith)))
       (judge-packs (jobBoard P) few few-a few-b s (answered (tables xs ys)) e)
   judged-packs (answered (walk es)) e =
-      pick-ending (eqb (judgeWalk (jobBoard P) es .code) 21) (refusing (refusal 15 2 0) entry) (refusing (judgeWalk (jobBoard P) es) entry)
+      pick-has Packs (eqb (judgeWalk (jobBoard P) es .code) 21) (refusing (refusal 15 2 0) entry) (refusing (judgeWalk (jobBoard P) es) entry)
       (refusal-packs 15 2 0 (omega arith) (omega arith) (omega arith))
       (judge-packs (jobBoard P) few few-a few-b s (answered (walk es)) e)
   judged-packs (unanswered w) e = judge-packs (jobBoard P) few few-a few-b s (unanswered w) e
@@ -250,7 +247,7 @@ write-found j room = plain-found (writeOutcome j room) (write-packs j room) (wri
 
 put-packs : (t entry : List ℕ) → length t < 2 ^ 24 → Packs (put t entry .outcome)
 put-packs t entry l =
-    pick-ending (leb (length t) (length entry)) (writing 0 t entry) (refusing (refusal 6 0 0) entry) (success-packs 0 (length t) (omega arith) l)
+    pick-has Packs (leb (length t) (length entry)) (writing 0 t entry) (refusing (refusal 6 0 0) entry) (success-packs 0 (length t) (omega arith) l)
     (refusal-packs 6 0 0 (omega arith) (omega arith) (omega arith))
 
 module _ (s entry : List ℕ) where

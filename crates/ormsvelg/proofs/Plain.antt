@@ -3,14 +3,13 @@
 --     read-rule, write-rule, solve-rule, move-rule
 -- Assumes nothing.
 use mathlib.Core.Path.{_≡_, refl, ap}
-use mathlib.Core.Bool.{Bool, true, false}
 use mathlib.Core.List.{List, [], _∷_, _++_}
 use Prim.Native.Nat.{ℕ}
 use lib.Dec.{leb}
 use lib.ListN.{length, take}
-use Rattle.steps.specs.Step.{pick}
 use Rattle.steps.specs.declared.Outcome.{Outcome}
 use Rattle.steps.specs.Outcome.{refusal, refusing, writing}
+use Rattle.steps.proofs.Endings.{pick-has}
 use Rattle.sheet.specs.declared.Form.{Form}
 use Rattle.sheet.specs.declared.Form.the-variants.{One, Two}
 use Rattle.sheet.specs.Job.{Job, Verdict, accepted, rejected}
@@ -53,11 +52,7 @@ solve-rule (solved j e l s) = on-rule s
 
 module _ (s entry : List ℕ) where
   put-rule : (t : List ℕ) → put t entry .outcome .rule ≡ 0
-  put-rule t = go (leb (length t) (length entry))
-    where
-      go : (b : Bool) → pick b (writing 0 t entry) (refusing (refusal 6 0 0) entry) .outcome .rule ≡ 0
-      go true = refl
-      go false = refl
+  put-rule t = pick-has (λ o. o .rule ≡ 0) (leb (length t) (length entry)) (writing 0 t entry) (refusing (refusal 6 0 0) entry) refl refl
 
   two-rule : (v : Verdict) → ending (toTwo v s) entry .outcome .rule ≡ 0
   two-rule (accepted j) = put-rule (s ++ two 0)

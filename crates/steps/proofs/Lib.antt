@@ -4,3 +4,4 @@ pub mod Near
 pub mod Goes
 pub mod Runs
 pub mod Codes
+pub mod Endings

@@ -13,7 +13,8 @@ use lib.Dec.{ltb, eqb}
 use lib.ListN.{length}
 use Rattle.steps.specs.declared.Outcome.{Outcome}
 use Rattle.steps.specs.Step.{pick}
-use Rattle.steps.specs.Outcome.{refusal, ruleBroken, refusedJob, Ending, refusing, writing}
+use Rattle.steps.specs.Outcome.{refusal, ruleBroken, refusedJob, refusing, writing}
+use Rattle.steps.proofs.Endings.{pick-has}
 use Rattle.sheet.specs.declared.Form.{Form}
 use Rattle.sheet.specs.Job.{Job, Verdict, accepted, rejected}
 use Rattle.sheet.specs.JobSheet.{readJob}
@@ -27,11 +28,6 @@ use Rattle.board.proofs.Codes.{walk-not, judge-rule}
 use Rattle.widener.specs.Asks.{asksb}
 use Rattle.widener.specs.Table.{widenSheet}
 use Rattle.widener.specs.Widened.{fitting, judged, withP, withNone, widened}
-
--- of two endings each has the property
-pick-has : (C : Outcome → Type 0) (b : Bool) (e f : Ending) → C (e .outcome) → C (f .outcome) → C (pick b e f .outcome)
-pick-has C true e f p q = p
-pick-has C false e f p q = q
 
 -- another code than 10, and the rule 0
 abbrev Plain : Outcome → Type 0
