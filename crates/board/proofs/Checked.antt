@@ -1,5 +1,4 @@
 -- What the checker's outcomes mean.
---     codes-differ, sheets-differ     outcomes of different codes, or sheets, differ
 --     shows             each combination shows a row that the cell has, on every job's board
 --     judged-fits       tables get 20 exactly if they fit
 --     judged-stands     a walk gets 21 exactly if it stands
@@ -23,6 +22,7 @@ use lib.Seq.{getD-append-add}
 use Rattle.wires.proofs.Rows.{row-below}
 use Rattle.steps.specs.declared.Outcome.{Outcome}
 use Rattle.steps.specs.Outcome.{success, refusal, ruleBroken, refusedJob, refusedAnswer}
+use Rattle.steps.proofs.Codes.{codes-differ, sheets-differ}
 use Rattle.sheet.specs.declared.Form.{Form}
 use Rattle.sheet.specs.Job.{Job, Verdict, accepted, rejected}
 use Rattle.sheet.specs.JobSheet.{readJob}
@@ -46,13 +46,6 @@ use Rattle.board.proofs.Codes.{tables-not, walk-not}
 
 pub shows : (n seesA seesB : ℕ) (rules excuses : List ℕ) → Shows (boardOf n seesA seesB rules excuses)
 shows n seesA seesB rules excuses = record { inA = λ a l. row-below n seesA a; inB = λ a l. row-below n seesB a }
-
--- outcomes of different codes differ
-pub codes-differ : (o p : Outcome) → (o .code ≡ p .code → ⊥) → o ≡ p → ⊥
-codes-differ o p d e = d (ap (λ (x : Outcome). x .code) e)
-
-pub sheets-differ : (o p : Outcome) → (o .sheet ≡ p .sheet → ⊥) → o ≡ p → ⊥
-sheets-differ o p d e = d (ap (λ (x : Outcome). x .sheet) e)
 
 -- ---- tables
 

@@ -17,7 +17,7 @@ use lib.Pow.{pow-pos}
 use Rattle.wires.specs.Terms.{Holds, Breaks, Fault, Excused}
 use Rattle.steps.specs.declared.Outcome.{Outcome}
 use Rattle.steps.specs.Outcome.{success, ruleBroken, refusedJob}
-use Rattle.steps.proofs.Codes.{answer-code-bounds}
+use Rattle.steps.proofs.Codes.{codes-differ, sheets-differ, answer-code-bounds}
 use Rattle.sheet.specs.declared.Form.{Form}
 use Rattle.sheet.specs.Job.{Job, Verdict, accepted, rejected}
 use Rattle.sheet.specs.JobSheet.{readJob}
@@ -36,7 +36,6 @@ use Rattle.board.proofs.Lowest.{lowest-at, lowest-least, lowest-is}
 use Rattle.board.proofs.Rules.{fails, faultb-iff, counted-holds, rule-among, rule-breaks, rule-least, rule-is}
 use Rattle.board.proofs.Tested.{tested-rule}
 use Rattle.board.proofs.Codes.{walk-not}
-use Rattle.board.proofs.Checked.{codes-differ, sheets-differ}
 
 module _ (j : Job) (T : List ℕ) where
   abbrev B : Board

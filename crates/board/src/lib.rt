@@ -24,7 +24,7 @@ pub enum Broken {
     None,
 }
 
-pub fn is_broken(b: Broken) -> bool
+fn is_broken(b: Broken) -> bool
     ensures { λ r. ⌜ r ≡ isBroken b ⌝ }
 {
     match b {

@@ -88,7 +88,7 @@ unpack-pack o h = λ i.
       rule = 0;
     }
 
-pub plain-found : (o : Outcome) → Packs o → o .rule ≡ 0 → unpack (pack o) ≡ o
+plain-found : (o : Outcome) → Packs o → o .rule ≡ 0 → unpack (pack o) ≡ o
 plain-found o h e = unpack-pack o h ∙ (λ i. record { code = o .code; sheet = o .sheet; place = o .place; written = o .written; rule = sym e i })
 
 code-small : (w : Refusal) → codeOf w < 2 ^ 8

@@ -14,6 +14,7 @@ use lib.ListN.{length}
 use Rattle.steps.specs.declared.Outcome.{Outcome}
 use Rattle.steps.specs.Step.{pick}
 use Rattle.steps.specs.Outcome.{refusal, ruleBroken, refusedJob, refusing, writing}
+use Rattle.steps.proofs.Codes.{codes-differ, sheets-differ}
 use Rattle.steps.proofs.Endings.{pick-has}
 use Rattle.sheet.specs.declared.Form.{Form}
 use Rattle.sheet.specs.Job.{Job, Verdict, accepted, rejected}
@@ -23,7 +24,6 @@ use Rattle.answer.specs.Answer.{rejected as unanswered}
 use Rattle.answer.specs.AnswerSheet.{readAnswer, longest}
 use Rattle.board.specs.JobBoard.{jobBoard}
 use Rattle.board.specs.Check.{judgeTables, judgeWalk, judge, judgeSheet, afterJob, checkOutcome}
-use Rattle.board.proofs.Checked.{codes-differ, sheets-differ}
 use Rattle.board.proofs.Codes.{walk-not, judge-rule}
 use Rattle.widener.specs.Asks.{asksb}
 use Rattle.widener.specs.Table.{widenSheet}
