@@ -28,7 +28,6 @@ use Rattle.sheet.specs.Job.{Job, Verdict, accepted, rejected}
 use Rattle.sheet.specs.JobSheet.{readJob}
 use Rattle.answer.specs.Answer.{Entry, tables, walk, AnswerVerdict, answered}
 use Rattle.answer.specs.Answer.{rejected as unanswered}
-use Rattle.answer.specs.AnswerSheet.{readAnswer}
 use Rattle.answer.specs.Written.{tablesSheet, walkSheet, Bytes, IsPair, IsWalk}
 use Rattle.answer.proofs.There.{tables-there, walk-there}
 use Rattle.answer.proofs.Sheets.{tables-read, walk-read, tables-sheet, walk-sheet}
@@ -42,7 +41,7 @@ use Rattle.board.proofs.Tests.{stepb-iff, amongb-iff}
 use Rattle.board.proofs.Numbered.{stands-iff, among-at, at-among}
 use Rattle.board.proofs.Lowest.{lowest-at, lowest-least, lowest-most}
 use Rattle.board.proofs.Walks.{soundness}
-use Rattle.board.proofs.Codes.{tables-not, walk-not}
+use Rattle.board.proofs.Codes.{verdictFor, tables-not, walk-not}
 
 pub shows : (n seesA seesB : ℕ) (rules excuses : List ℕ) → Shows (boardOf n seesA seesB rules excuses)
 shows n seesA seesB rules excuses = record { inA = λ a l. row-below n seesA a; inB = λ a l. row-below n seesB a }
@@ -183,10 +182,7 @@ joined-tables B xs ys p = record {
         rw q (p .bitsB (r - B .rowsA) (omega arith))
 
 module _ (f : Form) (job answer : List ℕ) (bytes : Bytes answer) where
-  abbrev verdictFor : Job → AnswerVerdict
-  verdictFor j = readAnswer (jobBoard j .rowsA) (jobBoard j .rowsB) (jobBoard j .combinations) answer
-
-  judge-20 : (j : Job) → readJob f job ≡ accepted j → (v : AnswerVerdict) → verdictFor j ≡ v → judge (jobBoard j) v ≡ success 20 0 → FitsSheet f job answer
+  judge-20 : (j : Job) → readJob f job ≡ accepted j → (v : AnswerVerdict) → verdictFor answer j ≡ v → judge (jobBoard j) v ≡ success 20 0 → FitsSheet f job answer
   judge-20 j e (answered (tables xs ys)) p q =
       let t = tables-there _ _ _ answer xs ys p in record {
         j = j;
@@ -200,7 +196,7 @@ module _ (f : Form) (job answer : List ℕ) (bytes : Bytes answer) where
   judge-20 j e (answered (walk es)) p q = absurd (walk-not (jobBoard j) es 20 (λ z. omega arith) (λ z. omega arith) (λ z. omega arith) (ap (λ (o : Outcome). o .code) q))
   judge-20 j e (unanswered w) p q = absurd (sheets-differ (refusedAnswer w) (success 20 0) (λ z. omega arith) q)
 
-  judge-21 : (j : Job) → readJob f job ≡ accepted j → (v : AnswerVerdict) → verdictFor j ≡ v → judge (jobBoard j) v ≡ success 21 0 → StandsSheet f job answer
+  judge-21 : (j : Job) → readJob f job ≡ accepted j → (v : AnswerVerdict) → verdictFor answer j ≡ v → judge (jobBoard j) v ≡ success 21 0 → StandsSheet f job answer
   judge-21 j e (answered (tables xs ys)) p q = absurd (tables-not (jobBoard j) (xs ++ ys) 21 (λ z. omega arith) (λ z. omega arith) (ap (λ (o : Outcome). o .code) q))
   judge-21 j e (answered (walk es)) p q =
       let t = walk-there _ _ _ answer es p in record {
@@ -215,12 +211,12 @@ module _ (f : Form) (job answer : List ℕ) (bytes : Bytes answer) where
 
   to-20 : (v : Verdict) → readJob f job ≡ v → afterJob v answer ≡ success 20 0 → FitsSheet f job answer
   unfolding judgeSheet
-  to-20 (accepted j) e q = judge-20 j e (verdictFor j) refl q
+  to-20 (accepted j) e q = judge-20 j e (verdictFor answer j) refl q
   to-20 (rejected w) e q = absurd (sheets-differ (refusedJob 1 w) (success 20 0) (λ z. omega arith) q)
 
   to-21 : (v : Verdict) → readJob f job ≡ v → afterJob v answer ≡ success 21 0 → StandsSheet f job answer
   unfolding judgeSheet
-  to-21 (accepted j) e q = judge-21 j e (verdictFor j) refl q
+  to-21 (accepted j) e q = judge-21 j e (verdictFor answer j) refl q
   to-21 (rejected w) e q = absurd (sheets-differ (refusedJob 1 w) (success 21 0) (λ z. omega arith) q)
 
 -- what is written is accepted: these two are what a solver, or any author, needs of the checker

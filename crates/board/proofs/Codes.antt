@@ -1,4 +1,5 @@
 -- The codes of the checker's judgements, and the rule that they carry.
+--     verdictFor                 what an answer sheet comes to for a job
 --     tables-not, walk-not       tables get 10 or 20, a walk 12, 13 or 21
 --     judge-rule, check-rule     whatever has another code than 10 carries the rule 0
 -- Assumes nothing.
@@ -12,7 +13,7 @@ use lib.ListN.{length}
 use Rattle.steps.specs.Step.{pick}
 use Rattle.steps.specs.Outcome.{success, refusal, ruleBroken}
 use Rattle.sheet.specs.declared.Form.{Form}
-use Rattle.sheet.specs.Job.{Verdict, accepted, rejected}
+use Rattle.sheet.specs.Job.{Job, Verdict, accepted, rejected}
 use Rattle.sheet.specs.JobSheet.{readJob}
 use Rattle.answer.specs.Answer.{Entry, tables, walk, AnswerVerdict, answered}
 use Rattle.answer.specs.Answer.{rejected as unanswered}
@@ -22,6 +23,9 @@ use Rattle.board.specs.Walk.{entry}
 use Rattle.board.specs.Tests.{lowest, amongb}
 use Rattle.board.specs.JobBoard.{jobBoard}
 use Rattle.board.specs.Check.{faultAt, stepAt, judgeTables, judgeWalk, judge, judgeSheet, afterJob, checkOutcome}
+
+abbrev pub verdictFor : (answer : List ℕ) → Job → AnswerVerdict
+verdictFor answer j = readAnswer (jobBoard j .rowsA) (jobBoard j .rowsB) (jobBoard j .combinations) answer
 
 module _ (B : Board) where
   pub tables-not : (T : List ℕ) (c : ℕ) → (10 ≢ c) → (20 ≢ c) → judgeTables B T .code ≡ c → ⊥
@@ -65,7 +69,7 @@ module _ (B : Board) where
 
 after-rule : (v : Verdict) (answer : List ℕ) → (afterJob v answer .code ≢ 10) → afterJob v answer .rule ≡ 0
 unfolding judgeSheet
-after-rule (accepted j) answer d = judge-rule (jobBoard j) (readAnswer (jobBoard j .rowsA) (jobBoard j .rowsB) (jobBoard j .combinations) answer) d
+after-rule (accepted j) answer d = judge-rule (jobBoard j) (verdictFor answer j) d
 after-rule (rejected w) answer d = refl
 
 pub check-rule : (f : Form) (job answer : List ℕ) → (checkOutcome f job answer .code ≢ 10) → checkOutcome f job answer .rule ≡ 0

@@ -35,12 +35,6 @@ either false f g = g refl
 
 -- ---- the first of k numbers from i on
 
-pub first-from : (p : ℕ → Bool) (i k : ℕ) → i ≤ firstFrom p i k
-first-from p i zero = omega (arith, first-none p i)
-first-from p i (suc k) =
-    let ih = first-from p (i + 1) k in
-    either (p i) (λ e. omega (arith, first-found p i k e)) (λ e. omega (arith, first-next p i k e))
-
 pub first-most : (p : ℕ → Bool) (i k : ℕ) → firstFrom p i k ≤ i + k
 first-most p i zero = omega (arith, first-none p i)
 first-most p i (suc k) =

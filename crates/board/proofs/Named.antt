@@ -23,7 +23,6 @@ use Rattle.sheet.specs.Job.{Job, Verdict, accepted, rejected}
 use Rattle.sheet.specs.JobSheet.{readJob}
 use Rattle.answer.specs.Answer.{tables, walk, AnswerVerdict, answered}
 use Rattle.answer.specs.Answer.{rejected as unanswered}
-use Rattle.answer.specs.AnswerSheet.{readAnswer}
 use Rattle.answer.specs.Written.{tablesSheet, Bytes, IsPair}
 use Rattle.answer.proofs.There.{tables-there}
 use Rattle.answer.proofs.Sheets.{tables-read, tables-sheet}
@@ -35,7 +34,7 @@ use Rattle.board.specs.Check.{faultAt, ruleAt, tablesAt, judgeTables, ju
 use Rattle.board.proofs.Lowest.{lowest-at, lowest-least, lowest-is}
 use Rattle.board.proofs.Rules.{fails, faultb-iff, counted-holds, rule-among, rule-breaks, rule-least, rule-is}
 use Rattle.board.proofs.Tested.{tested-rule}
-use Rattle.board.proofs.Codes.{walk-not}
+use Rattle.board.proofs.Codes.{verdictFor, walk-not}
 
 module _ (j : Job) (T : List ℕ) where
   abbrev B : Board
@@ -133,10 +132,7 @@ pub record BreaksSheet (f : Form) (job answer : List ℕ) (place rule : ℕ) : T
   pub named : Named j (xs ++ ys) place rule
 
 module _ (f : Form) (job answer : List ℕ) (bytes : Bytes answer) (place rule : ℕ) where
-  abbrev verdictFor : Job → AnswerVerdict
-  verdictFor j = readAnswer (jobBoard j .rowsA) (jobBoard j .rowsB) (jobBoard j .combinations) answer
-
-  judge-10 : (j : Job) → readJob f job ≡ accepted j → (v : AnswerVerdict) → verdictFor j ≡ v → judge (jobBoard j) v ≡ ruleBroken place rule → BreaksSheet f job answer place rule
+  judge-10 : (j : Job) → readJob f job ≡ accepted j → (v : AnswerVerdict) → verdictFor answer j ≡ v → judge (jobBoard j) v ≡ ruleBroken place rule → BreaksSheet f job answer place rule
   judge-10 j e (answered (tables xs ys)) p q =
       record {
         j = j;
@@ -153,7 +149,7 @@ module _ (f : Form) (job answer : List ℕ) (bytes : Bytes answer) (place rule :
 
   to-10 : (v : Verdict) → readJob f job ≡ v → afterJob v answer ≡ ruleBroken place rule → BreaksSheet f job answer place rule
   unfolding judgeSheet
-  to-10 (accepted j) e q = judge-10 j e (verdictFor j) refl q
+  to-10 (accepted j) e q = judge-10 j e (verdictFor answer j) refl q
   to-10 (rejected w) e q = absurd (sheets-differ (refusedJob 1 w) (ruleBroken place rule) (λ z. omega arith) q)
 
   from-10 : (x : BreaksSheet f job answer place rule) → checkOutcome f job (tablesSheet (x .xs) (x .ys)) ≡ ruleBroken place rule

@@ -49,6 +49,7 @@ use Rattle.board.specs.Walk.{entry}
 use Rattle.board.specs.Tests.{lowest, amongb}
 use Rattle.board.specs.JobBoard.{jobBoard}
 use Rattle.board.specs.Check.{faultAt, ruleAt, stepAt, tablesAt, walkAt, judgeTables, judgeWalk, judge, judgeSheet, afterJob, checkOutcome}
+use Rattle.board.proofs.Codes.{verdictFor}
 use Rattle.answer.specs.Written.{two, tablesSheet, walkSheet}
 use Rattle.answer.proofs.Sheets.{tables-length, walk-length}
 use Rattle.solver.specs.Solved.{SolvedOn, Solved, refused, noRoom, solved}
@@ -153,7 +154,7 @@ after-packs f job answer (accepted j) e =
     let b = job-bounds f job j e in
     let m = seen-bounds f job j e in
     judge-packs (jobBoard j) (pow-mono (b .0)) (pow-mono (m .0)) (pow-mono (m .1)) answer
-    (readAnswer (jobBoard j .rowsA) (jobBoard j .rowsB) (jobBoard j .combinations) answer) refl
+    (verdictFor answer j) refl
 after-packs f job answer (rejected w) e =
     refused-packs f job w 1 (omega arith) e
 
@@ -214,7 +215,7 @@ q-packs f p q s entry P isP (accepted Q) e =
     let m = seen-bounds f p P isP in
     let k = seen-bounds f q Q e in
     judged-packs P Q s entry (pow-mono (b .0)) (pow-mono (m .0)) (pow-mono (m .1)) (pow-mono (k .0)) (pow-mono (k .1))
-    (readAnswer (jobBoard P .rowsA) (jobBoard P .rowsB) (jobBoard P .combinations) s) refl
+    (verdictFor s P) refl
 q-packs f p q s entry P isP (rejected w) e =
     refused-packs f q w 3 (omega arith) e
 

@@ -21,10 +21,10 @@ use Rattle.sheet.specs.Job.{Job, Verdict, accepted, rejected}
 use Rattle.sheet.specs.JobSheet.{readJob}
 use Rattle.answer.specs.Answer.{tables, walk, AnswerVerdict, answered}
 use Rattle.answer.specs.Answer.{rejected as unanswered}
-use Rattle.answer.specs.AnswerSheet.{readAnswer, longest}
+use Rattle.answer.specs.AnswerSheet.{longest}
 use Rattle.board.specs.JobBoard.{jobBoard}
 use Rattle.board.specs.Check.{judgeTables, judgeWalk, judge, judgeSheet, afterJob, checkOutcome}
-use Rattle.board.proofs.Codes.{walk-not, judge-rule}
+use Rattle.board.proofs.Codes.{verdictFor, walk-not, judge-rule}
 use Rattle.widener.specs.Asks.{asksb}
 use Rattle.widener.specs.Table.{widenSheet}
 use Rattle.widener.specs.Widened.{fitting, judged, withP, withNone, widened}
@@ -77,13 +77,10 @@ module _ (P Q : Job) (entry : List ℕ) where
   judged-rule (unanswered w) = λ d. refl
 
 module _ (f : Form) (p q s entry : List ℕ) where
-  abbrev verdictFor : Job → AnswerVerdict
-  verdictFor P = readAnswer (jobBoard P .rowsA) (jobBoard P .rowsB) (jobBoard P .combinations) s
-
   module _ (place rule : ℕ) where
     q-to : (P : Job) (v : Verdict) → withP P v s entry .outcome ≡ ruleBroken place rule → judgeSheet (jobBoard P) s ≡ ruleBroken place rule
     unfolding judgeSheet
-    q-to P (accepted Q) e = judged-to P Q entry place rule (verdictFor P) e
+    q-to P (accepted Q) e = judged-to P Q entry place rule (verdictFor s P) e
     q-to P (rejected w) e = absurd (sheets-differ (refusedJob 3 w) (ruleBroken place rule) (λ z. omega arith) e)
 
     p-to : (v : Verdict) → withNone f v q s entry .outcome ≡ ruleBroken place rule → afterJob v s ≡ ruleBroken place rule
@@ -96,7 +93,7 @@ module _ (f : Form) (p q s entry : List ℕ) where
 
     p-from : (v : Verdict) (Q : Job) → readJob f q ≡ accepted Q → afterJob v s ≡ ruleBroken place rule → withNone f v q s entry .outcome ≡ ruleBroken place rule
     unfolding judgeSheet
-    p-from (accepted P) Q isQ e = rw isQ (judged-from P Q entry place rule (verdictFor P) e)
+    p-from (accepted P) Q isQ e = rw isQ (judged-from P Q entry place rule (verdictFor s P) e)
     p-from (rejected w) Q isQ e = e
 
     pub widens-10 : (Q : Job) → readJob f q ≡ accepted Q → checkOutcome f p s ≡ ruleBroken place rule → widened f p q s entry .outcome ≡ ruleBroken place rule
@@ -104,7 +101,7 @@ module _ (f : Form) (p q s entry : List ℕ) where
     widens-10 Q isQ e = p-from (readJob f p) Q isQ e
 
   q-rule : (P : Job) (v : Verdict) → (withP P v s entry .outcome .code ≢ 10) → withP P v s entry .outcome .rule ≡ 0
-  q-rule P (accepted Q) d = judged-rule P Q entry (verdictFor P) d
+  q-rule P (accepted Q) d = judged-rule P Q entry (verdictFor s P) d
   q-rule P (rejected w) d = refl
 
   p-rule : (v : Verdict) → (withNone f v q s entry .outcome .code ≢ 10) → withNone f v q s entry .outcome .rule ≡ 0
