@@ -1,5 +1,6 @@
 pub mod Digits
 pub mod Rows
+pub mod Parts
 pub mod Lowest
 pub mod Terms
 pub mod Sets

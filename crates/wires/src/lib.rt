@@ -1,10 +1,10 @@
 // The numbers below everything: wires seen as masks, the row that a combination shows, and the terms of rules as masks.
 // Document 01, "Numbers used". The definitions stand in specs/Wires and specs/Terms; the laws that callers cite in
-// proofs/Rows and proofs/Terms. Leans on nothing.
+// proofs/Rows, proofs/Parts and proofs/Terms. Leans on nothing.
 ghost use mathlib.Core.Path.{_≡_};
 ghost use mathlib.Core.Bool.{true};
 ghost use mathlib.Core.Logic.{_↔_};
-ghost use Prim.Native.Nat.{ℕ, _-_, _^_, _<_, _≤_};
+ghost use Prim.Native.Nat.{ℕ, _+_, _-_, _^_, _<_, _≤_};
 ghost use lib.Count.{ones};
 ghost use lib.ListN.{length, take};
 ghost use Rattle.wires.specs.Wires.{shown, placed};
@@ -56,6 +56,13 @@ pub fn row_placed(seen: u32, row: u32) -> u32
         left = left & (left - 1);
     }
     a
+}
+
+// The next of the parts of the set `unseen`, in rising order, after `part`; after the last comes 0 again.
+pub fn next_part(part: u32, unseen: u32) -> u32
+    ensures { λ r. ⌜ ((n k : ℕ) → n ≤ 32 → unseen < 2 ^ n → part ≡ placed n unseen k → r ≡ placed n unseen (k + 1)) ⌝ }
+{
+    std::num::wrapping_sub_u32(part, unseen) & unseen
 }
 
 // The digits of the two terms of a variable: the plain one is true where the value is 1, the negated one where it is 0.
