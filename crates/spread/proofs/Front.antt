@@ -108,7 +108,7 @@ module _ {g : Grid} {start : ℕ} {s : Store} {r : List ℕ} (inside : start < c
 
 module _ {g : Grid} {start : ℕ} {s t : Store} {tail head : ℕ} (w : Front g start s t tail head) where
   pub front-ask : Sound g → head < tail → Asks g t tail (entry t head)
-  front-ask ok h = record { sound = ok; reach = w .reach; known = w .reach .marked head h }
+  front-ask ok h = record { sound = ok; reach = w .reach; inside = w .reach .below head h; known = w .reach .marked head h }
 
   pub front-turn : {u : Store} {last : ℕ} → head < tail → Swept g t tail (entry t head) u last → Front g start s u last (head + 1)
   front-turn {u} h q = record {

@@ -4,6 +4,7 @@ pub mod Laws
 pub mod Aims
 pub mod Looked
 pub mod Sweep
+pub mod Scan
 pub mod Front
 pub mod Back
 pub mod Meaning

@@ -37,7 +37,18 @@ module _ {g : Grid} {s : Store} {tail l a base low high : ℕ} (k : Looks g s ta
     look-second = offers (k .sound) (first .reach) (m .inside) (m .small-high)
 
     pub looked : {u : Store} {last : ℕ} → Offered t mid (bit (fault g a) high) (base + 1) l a u last → Looked g s tail l a u last
-    looked {u} {last} q = record { grown = grown-trans first second; found = found }
+    looked {u} {last} q = record {
+      base = base;
+      low = low;
+      high = high;
+      aimed = d;
+      middle = t;
+      between = mid;
+      to-base = o;
+      to-next = q;
+      grown = grown-trans first second;
+      found = found;
+    }
       where
         second : Grown g t mid u last
         second = offered (first .reach) (m .inside) on (m .at-high) q

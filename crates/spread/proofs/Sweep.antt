@@ -1,46 +1,64 @@
--- The loop of `looks`: what it has done when it comes to combination a.
+-- The loop of `looks`: what it has done when it comes to combination b.
 -- Assumes nothing.
-use Prim.Native.Nat.{ℕ, _+_, _<_, _≤_}
-use mathlib.Core.Path.{subst}
+use Prim.Native.Nat.{ℕ, zero, suc, _+_, _-_, _<_, _≤_}
+use mathlib.Core.Path.{_≡_, sym, subst}
+use native.Mathlib.Nat.{add-zero}
 use native.Mathlib.Omega.{arith}
 use borrow.Author.Count.{below-more, below-none}
 use Rattle.grid.specs.Grid.{Grid, shown-a, shown-b}
 use Rattle.spread.specs.Steps.{Shown}
-use Rattle.spread.specs.Reach.{Store, Reach, Grown, Found, Looks, Looked, Asks, Swept, Left}
+use Rattle.spread.specs.Reach.{Store, Reach, Grown, Found, Looks, Looked, Visited, Asks, Swept}
+use Rattle.spread.specs.Reach.Visited.{begin, look, pass}
 use Rattle.spread.proofs.Aims.{step-within, step-shown}
-use Rattle.spread.proofs.Laws.{grown-refl, grown-trans, left-path}
+use Rattle.spread.proofs.Laws.{grown-refl, grown-trans}
 
--- from the store s with its end at `tail`, the combinations before a have been looked at
-pub record Sweep (g : Grid) (s : Store) (tail l : ℕ) (t : Store) (last a : ℕ) : Type 0 where
-  pub at : a ≤ g .shape .combinations
+-- from the store s with its end at `tail`, the combinations before b that show the row have been looked at
+pub record Sweep (g : Grid) (s : Store) (tail l : ℕ) (t : Store) (last b : ℕ) : Type 0 where
+  pub visited : Visited g l s tail b t last
   pub grown : Grown g s tail t last
-  pub found : (k : ℕ) → k < a → Found g t l k
+  pub found : (k : ℕ) → k < b → Found g t l k
+
+-- combination a shows the row of claim l
+abbrev pub At : Grid → ℕ → ℕ → Type 0
+At g l a = Shown (g .shape .«rows_a») (shown-a g a) (shown-b g a) l
 
 module _ {g : Grid} {s : Store} {tail l : ℕ} where
   pub sweep-start : Reach g s tail → Sweep g s tail l s tail 0
-  sweep-start h = record { at = omega arith; grown = grown-refl h; found = below-none (λ (k : ℕ). Found g s l k) }
+  sweep-start h = record { visited = begin; grown = grown-refl h; found = below-none (λ (k : ℕ). Found g s l k) }
 
-  module _ {t : Store} {last a : ℕ} (w : Sweep g s tail l t last a) where
-    pub sweep-ask : Asks g s tail l → a < g .shape .combinations → Shown (g .shape .«rows_a») (shown-a g a) (shown-b g a) l → Looks g t last l a
+  module _ {t : Store} {last b : ℕ} (w : Sweep g s tail l t last b) where
+    pub sweep-ask : Asks g s tail l → b < g .shape .combinations → At g l b → Looks g t last l b
     sweep-ask q n z = record { sound = q .sound; reach = w .grown .reach; known = w .grown .still l (q .known); within = n; shows = z }
 
-    pub sweep-look : {u : Store} {end : ℕ} → a < g .shape .combinations → Looked g t last l a u end → Sweep g s tail l u end (a + 1)
-    sweep-look {u} n q = record {
-      at = omega arith;
+    pub sweep-look : {u : Store} {end : ℕ} → At g l b → Looked g t last l b u end → Sweep g s tail l u end (b + 1)
+    sweep-look {u} z q = record {
+      visited = look (w .visited) z q;
       grown = grown-trans (w .grown) (q .grown);
-      found = below-more (λ (k : ℕ). Found g u l k) a (λ k z m e. q .grown .still m (w .found k z m e)) (q .found);
+      found = below-more (λ (k : ℕ). Found g u l k) b (λ k z m e. q .grown .still m (w .found k z m e)) (q .found);
     }
 
-    pub sweep-drop : a < g .shape .combinations → (Shown (g .shape .«rows_a») (shown-a g a) (shown-b g a) l → ⊥) → Sweep g s tail l t last (a + 1)
-    sweep-drop n z = record {
-      at = omega arith;
+    pub sweep-pass : (At g l b → ⊥) → Sweep g s tail l t last (b + 1)
+    sweep-pass z = record {
+      visited = pass (w .visited) z;
       grown = w .grown;
-      found = below-more (λ (k : ℕ). Found g t l k) a (w .found) (λ m e. absurd (z (step-shown e)));
+      found = below-more (λ (k : ℕ). Found g t l k) b (w .found) (λ m e. absurd (z (step-shown e)));
     }
 
-    pub sweep-done : g .shape .combinations ≤ a → Swept g s tail l t last
-    sweep-done n = record { grown = w .grown; found = λ k m e. w .found k (omega (arith, step-within e)) m e }
+  pub sweep-done : {t : Store} {last : ℕ} → Sweep g s tail l t last (g .shape .combinations) → Swept g s tail l t last
+  sweep-done w = record { visited = w .visited; grown = w .grown; found = λ k m e. w .found k (step-within e) m e }
 
-  -- the same, of the variables where the arms of a branch have met
-  pub sweep-as : {t : Store} {last : ℕ} {u : Store} {end a : ℕ} → Left t last u end → Sweep g s tail l t last a → Sweep g s tail l u end a
-  sweep-as {last = last} {a = a} d w = rw (d .end) (subst (λ (v : Store). Sweep g s tail l v last a) (left-path d) w)
+  -- the d combinations from b on do not show the row; and those from b on to c
+  sweep-on : {t : Store} {last b : ℕ} (d : ℕ) → ((a : ℕ) → b ≤ a → a < b + d → At g l a → ⊥) → Sweep g s tail l t last b → Sweep g s tail l t last (b + d)
+  sweep-on {t} {last} {b} zero h w = subst (Sweep g s tail l t last) (sym (add-zero b)) w
+  sweep-on {t} {last} {b} (suc d) h w =
+      subst (Sweep g s tail l t last) (step b d)
+      (sweep-pass (sweep-on {b = b} d (λ a p q. h a p (omega arith)) w) (h (b + d) (omega arith) (omega arith)))
+    where
+      step : (b d : ℕ) → b + d + 1 ≡ b + suc d
+      step b d = omega arith
+
+  pub sweep-to : {t : Store} {last b c : ℕ} → b ≤ c → ((a : ℕ) → b ≤ a → a < c → At g l a → ⊥) → Sweep g s tail l t last b → Sweep g s tail l t last c
+  sweep-to {t} {last} {b} {c} n h w = subst (Sweep g s tail l t last) sum (sweep-on {b = b} (c - b) (λ a p q. h a p (omega arith)) w)
+    where
+      sum : b + (c - b) ≡ c
+      sum = omega arith

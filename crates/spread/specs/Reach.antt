@@ -4,6 +4,8 @@
 --     Reach      the invariant: the first `tail` queue entries are exactly the marked claims, each once, and each but the first has a parent that stands before it
 --     Grown      from one store to a later one: more claims, none lost, the queue's front as it was
 --     marked     which claims a store has marked
+--     Looked     one look: the two claims of the other cell's row are offered, each by its fault bit
+--     Visited    the scan of one claim: each combination that shows its row is looked at once, in rising order, and no other
 --     Spread     every claim to which steps lead from the start is marked, and no other
 -- Assumes nothing: these are definitions.
 use Prim.Native.Nat.{ℕ, zero, suc, _+_, _<_, _≤_}
@@ -13,8 +15,8 @@ use mathlib.Core.Logic.{_⊎_}
 use mathlib.Core.List.{List}
 use lib.Dec.{eqb, ltb}
 use lib.ListN.{length, getD, set}
-use Rattle.grid.specs.Grid.{Grid, claims, shown-a, shown-b, Sound}
-use Rattle.spread.specs.Steps.{Shown, Step}
+use Rattle.grid.specs.Grid.{Grid, claims, shown-a, shown-b, fault, bit, Sound}
+use Rattle.spread.specs.Steps.{Shown, Step, Aimed}
 
 pub record Store : Type 0 where
   pub reached : List ℕ
@@ -124,16 +126,33 @@ pub record Looks (g : Grid) (s : Store) (tail l a : ℕ) : Type 0 where
   pub shows : Shown (g .shape .«rows_a») (shown-a g a) (shown-b g a) l
 
 pub record Looked (g : Grid) (s : Store) (tail l a : ℕ) (t : Store) (last : ℕ) : Type 0 where
+  pub base : ℕ
+  pub low : ℕ
+  pub high : ℕ
+  pub aimed : Aimed (g .shape .«rows_a») (shown-a g a) (shown-b g a) l base low high
+  pub middle : Store
+  pub between : ℕ
+  pub to-base : Offered s tail (bit (fault g a) low) base l a middle between
+  pub to-next : Offered middle between (bit (fault g a) high) (base + 1) l a t last
   pub grown : Grown g s tail t last
   pub found : Found g t l a
+
+-- The first n combinations in rising order: each that shows the row of claim l was looked at, and each other passed over. So the store that is left does
+-- not hang on how the next combination is found.
+pub data Visited (g : Grid) (l : ℕ) (s : Store) (tail : ℕ) : ℕ → Store → ℕ → Type 0 where
+  begin : Visited g l s tail 0 s tail
+  look : {n : ℕ} {t : Store} {mid : ℕ} {u : Store} {last : ℕ} → Visited g l s tail n t mid → Shown (g .shape .«rows_a») (shown-a g n) (shown-b g n) l → Looked g t mid l n u last → Visited g l s tail (n + 1) u last
+  pass : {n : ℕ} {t : Store} {last : ℕ} → Visited g l s tail n t last → (Shown (g .shape .«rows_a») (shown-a g n) (shown-b g n) l → ⊥) → Visited g l s tail (n + 1) t last
 
 -- what `looks` asks and promises: one marked claim l and every combination
 pub record Asks (g : Grid) (s : Store) (tail l : ℕ) : Type 0 where
   pub sound : Sound g
   pub reach : Reach g s tail
+  pub inside : l < claims g
   pub known : mark s l ≡ 1
 
 pub record Swept (g : Grid) (s : Store) (tail l : ℕ) (t : Store) (last : ℕ) : Type 0 where
+  pub visited : Visited g l s tail (g .shape .combinations) t last
   pub grown : Grown g s tail t last
   pub found : (a : ℕ) → Found g t l a
 

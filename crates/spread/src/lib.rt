@@ -8,14 +8,16 @@ use answer::write_entry;
 use grid::Shape;
 use wires::Claim;
 use wires::Combination;
+use wires::next_part;
+use wires::row_count;
+use wires::row_placed;
 ghost use mathlib.Core.Path.{_≡_};
-ghost use mathlib.Core.Bool.{true, false};
 ghost use Prim.Native.Nat.{_<_, _≤_};
 ghost use mathlib.Core.List.{_++_};
 ghost use lib.ListN.{length, drop, replicate};
 ghost use Rattle.board.specs.Board.{opposite as opp};
 ghost use Rattle.grid.specs.Grid.{grid, bit};
-ghost use Rattle.spread.specs.Steps.{Aimed, Shown};
+ghost use Rattle.spread.specs.Steps.{Aimed, Sided};
 ghost use Rattle.spread.specs.Reach.{store, Offered, Offers, Looks, Looked, Asks, Swept, Starts, Spread};
 ghost use Rattle.spread.specs.Walk.{Backs, Written};
 
@@ -91,21 +93,27 @@ fn aim(rows_a: usize, x: usize, y: usize, claim: Claim) -> Target
     }
 }
 
-// Does the combination that shows row x to A and row y to B show the claim's row?
-fn shows(rows_a: usize, x: usize, y: usize, claim: Claim) -> bool
-    requires { ⌜ («rows_a» ≤ 256) × (x < 256) × (y < 256) ⌝ }
-    ensures { λ r. ⌜ (r ≡ true → Shown «rows_a» x y (claim .0)) × (r ≡ false → Shown «rows_a» x y (claim .0) → ⊥) ⌝ }
+// The wires that a claim's cell sees, and the number of the claim's row among that cell's.
+struct Side {
+    seen: u32,
+    row: u32,
+}
+
+fn side_of(shape: Shape, claim: Claim) -> Side
+    ensures { λ r. ⌜ Sided shape (claim .0) (r .seen) (r .row) ⌝ }
 {
     let n = claim.0;
-    let l = n as usize;
-    let row = l / 2;
-    if row == x {
-        return true;
+    let row = n as usize / 2;
+    if row < shape.rows_a {
+        return Side {
+            seen: shape.sees_a,
+            row: row as u32,
+        };
     }
-    if row == rows_a + y {
-        return true;
+    Side {
+        seen: shape.sees_b,
+        row: (row - shape.rows_a) as u32,
     }
-    false
 }
 
 // One look: the claims of the other cell's row to which a step by this combination leads are marked and queued. Returns the
@@ -160,7 +168,8 @@ fn look(
     )
 }
 
-// Every look of one marked claim: the combinations in order, those that show another row dropped. Returns the queue's new end.
+// Every look of one marked claim: the combinations that show its row, in rising order. The lowest has 0 at each wire that the
+// claim's cell does not see, and the next comes by the next part of these wires. Returns the queue's new end.
 fn looks(
     shape: Shape,
     row_a: &[u8],
@@ -176,29 +185,30 @@ fn looks(
     requires { ⌜ Asks (grid shape (now «row_a») (now «row_b») (now faults)) (store (now reached) (now queue) (now from) (now by)) tail (claim .0) ⌝ }
     ensures { λ r. ⌜ Swept (grid shape (now («row_a» .entry)) (now («row_b» .entry)) (now (faults .entry))) (store (now (reached .entry)) (now (queue .entry)) (now (from .entry)) (now (by .entry))) tail (claim .0) (store (now (reached .exit)) (now (queue .exit)) (now (from .exit)) (now (by .exit))) r ⌝ }
 {
-    let rows_a = shape.rows_a;
-    let count = shape.combinations;
+    let own = side_of(shape, claim);
+    let unseen = (shape.combinations - 1) as u32 - own.seen;
+    let lowest = row_placed(own.seen, own.row);
+    let count = row_count(unseen);
     let mut last = tail;
-    let mut a = 0;
-    while a < count {
-        let x = row_a[a] as usize;
-        let y = row_b[a] as usize;
-        if shows(rows_a, x, y, claim) {
-            last = look(
-                shape,
-                row_a,
-                row_b,
-                faults,
-                claim,
-                Combination(a as u16),
-                reached,
-                queue,
-                from,
-                by,
-                last,
-            );
-        }
-        a += 1;
+    let mut part: u32 = 0;
+    let mut k = 0;
+    while k < count {
+        let a = lowest + part;
+        last = look(
+            shape,
+            row_a,
+            row_b,
+            faults,
+            claim,
+            Combination(a as u16),
+            reached,
+            queue,
+            from,
+            by,
+            last,
+        );
+        part = next_part(part, unseen);
+        k += 1;
     }
     last
 }
