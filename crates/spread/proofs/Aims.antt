@@ -1,12 +1,16 @@
 -- The two claims at which a look aims are the ends of all steps from its claim by its combination.
 -- Assumes nothing.
-use Prim.Native.Nat.{ℕ, _+_, _*_, _-_, _/_, _%_, _<_}
-use mathlib.Core.Path.{_≡_}
-use mathlib.Core.Logic.{_⊎_, inl, inr, ⊎-elim}
-use native.Mathlib.Decide.{ℕ-discrete}
+use Prim.Native.Nat.{ℕ, _+_, _*_, _-_, _/_, _%_, _<_, _≤_}
+use mathlib.Core.Path.{_≡_, refl, sym, subst, _∙_}
+use mathlib.Core.Logic.{_⊎_, inl, inr, ⊎-elim, by-cases}
+use native.Mathlib.Decide.{ℕ-discrete, decLt}
+use borrow.Author.Tests.{lt-ltb, le-ltb}
+use lib.Count.{ones}
+use lib.Pow.{pow-pos}
+use lib.ListN.{length}
 use native.Mathlib.Omega.{arith}
 use Rattle.grid.specs.Grid.{Grid, claims, shown-a, shown-b, fault, Sound, bit}
-use Rattle.spread.specs.Steps.{Shown, Step, Aimed}
+use Rattle.spread.specs.Steps.{Shown, Step, Aim, aim, aimOf, base, Sided}
 use Rattle.spread.specs.Steps.Step.{a-to-b, b-to-a}
 use Rattle.spread.proofs.Sizes.{in-a, in-b}
 
@@ -82,5 +86,43 @@ module _ {g : Grid} {l a base low high : ℕ} (ok : Sound g) (w : a < g .shape .
     all = ends-b e (q .0) (q .1) (q .2);
   }
 
-  pub aims : Aimed (g .shape .«rows_a») (shown-a g a) (shown-b g a) l base low high → Shown (g .shape .«rows_a») (shown-a g a) (shown-b g a) l → Aims g l a base low high
-  aims d s = ⊎-elim (λ e. aims-a e (d .from-a (omega (arith, in-a ok a w)))) (λ e. aims-b e (d .from-b (omega arith))) s
+-- ---- by the cell of the claim
+
+module _ (g : Grid) (l : ℕ) where
+  pub aim-a : l / 2 < g .shape .«rows_a» → aimOf g l ≡ aim (g .faults) (g .row-b) (g .shape .«rows_a») (2 * (l % 2) + 1) (2 * (l % 2))
+  unfolding aimOf
+  aim-a h = rw (lt-ltb (l / 2) (g .shape .«rows_a») h) refl
+
+  pub aim-b : g .shape .«rows_a» ≤ l / 2 → aimOf g l ≡ aim (g .faults) (g .row-a) 0 (2 + l % 2) (l % 2)
+  unfolding aimOf
+  aim-b h = rw (le-ltb (l / 2) (g .shape .«rows_a») h) refl
+
+  -- what holds of both cells' aims holds of the claim's
+  by-cell : (P : Aim → Type 0) → (l / 2 < g .shape .«rows_a» → P (aim (g .faults) (g .row-b) (g .shape .«rows_a») (2 * (l % 2) + 1) (2 * (l % 2)))) → (g .shape .«rows_a» ≤ l / 2 → P (aim (g .faults) (g .row-a) 0 (2 + l % 2) (l % 2))) → P (aimOf g l)
+  by-cell P p q =
+      by-cases (decLt (l / 2) (g .shape .«rows_a»)) (λ h. subst P (sym (aim-a h)) (p h))
+      (λ h. subst P (sym (aim-b (omega arith))) (q (omega arith)))
+
+  pub aim-faults : aimOf g l .faults ≡ g .faults
+  aim-faults = by-cell (λ (v : Aim). v .faults ≡ g .faults) (λ h. refl) (λ h. refl)
+
+  pub aim-long : Sound g → g .shape .combinations ≤ length (aimOf g l .other)
+  aim-long ok = by-cell (λ (v : Aim). g .shape .combinations ≤ length (v .other)) (λ h. ok .long-b) (λ h. ok .long-a)
+
+  pub aims : {a : ℕ} → Sound g → a < g .shape .combinations → Shown (g .shape .«rows_a») (shown-a g a) (shown-b g a) l → Aims g l a (base (aimOf g l) a) (aimOf g l .low) (aimOf g l .high)
+  aims {a} ok w s =
+      by-cell (λ (v : Aim). Aims g l a (base v a) (v .low) (v .high))
+      (λ h. ⊎-elim (λ e. aims-a ok w e (refl, refl, refl)) (λ e. absurd (omega arith)) s)
+      (λ h. ⊎-elim (λ e. absurd (omega (arith, in-a ok a w))) (λ e. aims-b ok w e (omega arith, refl, refl)) s)
+
+  -- the aim by the numbers of the claim's side: where the other cell's first row is B's first it is of B, and else of A
+  module _ {seen row first low high : ℕ} (d : Sided (g .shape) l seen row first low high) where
+    pub side-a : Sound g → first ≡ g .shape .«rows_a» → aimOf g l ≡ aim (g .faults) (g .row-b) first low high
+    side-a ok e =
+        by-cases (decLt (l / 2) (g .shape .«rows_a»)) (λ h. aim-a h ∙ sym (rw (d .of-a h .2, d .of-a h .3, d .of-a h .4) refl))
+        (λ h. absurd (omega (arith, d .of-b (omega arith) .2, ok .sizes .rows-a, pow-pos (ones (g .shape .«sees_a»)))))
+
+    pub side-b : (first ≡ g .shape .«rows_a» → ⊥) → aimOf g l ≡ aim (g .faults) (g .row-a) first low high
+    side-b e =
+        by-cases (decLt (l / 2) (g .shape .«rows_a»)) (λ h. absurd (e (d .of-a h .2)))
+        (λ h. aim-b (omega arith) ∙ sym (rw (d .of-b (omega arith) .2, d .of-b (omega arith) .3, d .of-b (omega arith) .4) refl))

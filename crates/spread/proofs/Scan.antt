@@ -2,18 +2,22 @@
 -- Each is one of these, they rise with k, and none lies between two neighbours.
 -- Assumes nothing.
 use Prim.Native.Nat.{ℕ, zero, suc, _+_, _-_, _/_, _^_, _<_, _≤_}
-use mathlib.Core.Path.{_≡_, sym, ap, ap₂, subst, _∙_}
+use mathlib.Core.Path.{_≡_, refl, sym, ap, ap₂, subst, _∙_}
 use mathlib.Core.Logic.{⊎-elim, inl, inr, by-cases}
 use native.Mathlib.Decide.{decLt}
 use native.Mathlib.Omega.{arith}
+use mathlib.Core.Bool.{Bool, true, false, true≢false}
 use lib.Count.{ones}
+use lib.Pow.{pow-pos}
 use Rattle.wires.specs.Wires.{shown, placed}
-use Rattle.wires.proofs.Rows.{row-below}
-use Rattle.wires.proofs.Parts.{parts-of, part-shows, part-below, part-rises, part-first}
-use Rattle.grid.specs.Grid.{Grid, claims, shown-a, shown-b, Sound}
-use Rattle.spread.specs.Steps.{Sided}
-use Rattle.spread.specs.Reach.{Store, Looks, Looked, Asks, Swept}
-use Rattle.spread.proofs.Sizes.{in-a, in-b}
+use Rattle.wires.proofs.Rows.{row-below, shown-placed}
+use Rattle.wires.proofs.Parts.{parts-of, part-shows, part-below, part-rises, part-first, part-last}
+use Rattle.grid.specs.Grid.{Grid, claims, Sound}
+use Rattle.spread.specs.Steps.{Aim, aimOf, Sided}
+use Rattle.spread.specs.Reach.{Store, Left, Looks, Looked, Asks, Swept}
+use Rattle.spread.proofs.Sizes.{in-a}
+use Rattle.spread.proofs.Laws.{left-path}
+use Rattle.spread.proofs.Looked.{Turn, turn-asks}
 use Rattle.spread.proofs.Sweep.{Sweep, At, sweep-start, sweep-ask, sweep-look, sweep-to, sweep-done}
 
 -- the row of a claim's own cell: a combination shows it exactly if it shows the claim's row
@@ -23,7 +27,7 @@ pub record Own (g : Grid) (l seen row : ℕ) : Type 0 where
   pub to : (a : ℕ) → a < g .shape .combinations → At g l a → shown (g .shape .wires) seen a ≡ row
   pub from : (a : ℕ) → a < g .shape .combinations → shown (g .shape .wires) seen a ≡ row → At g l a
 
-module _ {g : Grid} {l seen row : ℕ} (ok : Sound g) (inside : l < claims g) (d : Sided (g .shape) l seen row) where
+module _ {g : Grid} {l seen row first low high : ℕ} (ok : Sound g) (inside : l < claims g) (d : Sided (g .shape) l seen row first low high) where
   own-a : l / 2 < g .shape .«rows_a» → (seen ≡ g .shape .«sees_a») × (row ≡ l / 2) → Own g l seen row
   own-a h e = rw (e .0) (record {
     mask = omega (arith, ok .sizes .mask-a, ok .sizes .combinations);
@@ -41,7 +45,7 @@ module _ {g : Grid} {l seen row : ℕ} (ok : Sound g) (inside : l < claims g) (d
   })
 
   pub own : Own g l seen row
-  own = by-cases (decLt (l / 2) (g .shape .«rows_a»)) (λ h. own-a h (d .of-a h)) (λ h. own-b (omega arith) (d .of-b (omega arith)))
+  own = by-cases (decLt (l / 2) (g .shape .«rows_a»)) (λ h. own-a h (d .of-a h .0, d .of-a h .1)) (λ h. own-b (omega arith) (d .of-b (omega arith) .0, d .of-b (omega arith) .1))
 
 -- the k-th combination that shows the row, and the place after the first k of them
 abbrev pub spot : ℕ → ℕ → ℕ → ℕ → ℕ → ℕ
@@ -105,9 +109,9 @@ module _ {g : Grid} {l seen row : ℕ} (unseen : ℕ) (ok : Sound g) (o : Own g 
     to-spot : (k : ℕ) → k < 2 ^ ones unseen → Sweep g s tail l t last (after (g .shape .wires) seen unseen row k) → Sweep g s tail l t last (spot (g .shape .wires) seen unseen row k)
     to-spot k m w = sweep-to (before-spot k m) (none-before k m) w
 
-    by-spot : {u : Store} {end : ℕ} (k : ℕ) → k < 2 ^ ones unseen → Sweep g s tail l t last (after (g .shape .wires) seen unseen row k) → Looked g t last l (spot (g .shape .wires) seen unseen row k) u end → Sweep g s tail l u end (after (g .shape .wires) seen unseen row (k + 1))
+    by-spot : {u : Store} {end : ℕ} (k : ℕ) → Turn g t last l (spot (g .shape .wires) seen unseen row k) → Sweep g s tail l t last (spot (g .shape .wires) seen unseen row k) → Looked (aimOf g l) t last l (spot (g .shape .wires) seen unseen row k) u end → Sweep g s tail l u end (after (g .shape .wires) seen unseen row (k + 1))
     unfolding after
-    by-spot {u} {end} k m w q = subst (λ (j : ℕ). Sweep g s tail l u end (after (g .shape .wires) seen unseen row j)) (next k) (sweep-look (to-spot k m w) (spot-shows k) q)
+    by-spot {u} {end} k z w q = subst (λ (j : ℕ). Sweep g s tail l u end (after (g .shape .wires) seen unseen row j)) (next k) (sweep-look w z q)
       where
         next : (k : ℕ) → suc k ≡ k + 1
         next k = omega arith
@@ -118,62 +122,104 @@ module _ {g : Grid} {l seen row : ℕ} (unseen : ℕ) (ok : Sound g) (o : Own g 
         none : (a : ℕ) → after (g .shape .wires) seen unseen row (2 ^ ones unseen) ≤ a → a < g .shape .combinations → At g l a → ⊥
         none a h p z = omega (arith, later (2 ^ ones unseen) a (omega arith) h p z, row-below (g .shape .wires) unseen a)
 
--- The loop after k turns: `part` is the k-th part of the wires not seen, and what comes before the place after the first k has been looked at.
-pub record Scan (g : Grid) (s : Store) (tail l unseen lowest count : ℕ) (t : Store) (last part k : ℕ) : Type 0 where
+-- The loop after k turns: `part` is the k-th part of the wires not seen, what comes before the place after the first k has been looked at, and there are more
+-- exactly if k parts are not all.
+pub record Scan (g : Grid) (s : Store) (tail l unseen lowest : ℕ) (t : Store) (last part : ℕ) (more : Bool) : Type 0 where
   pub seen : ℕ
   pub row : ℕ
   pub own : Own g l seen row
   pub rest : seen + unseen + 1 ≡ g .shape .combinations
   pub start : lowest ≡ placed (g .shape .wires) seen row
-  pub many : count ≡ 2 ^ ones unseen
-  pub at : part ≡ placed (g .shape .wires) unseen k
-  pub most : k ≤ count
-  pub sweep : Sweep g s tail l t last (after (g .shape .wires) seen unseen row k)
+  pub turns : ℕ
+  pub at : part ≡ placed (g .shape .wires) unseen turns
+  pub goes : more ≡ true → turns < 2 ^ ones unseen
+  pub ends : more ≡ false → turns ≡ 2 ^ ones unseen
+  pub sweep : Sweep g s tail l t last (after (g .shape .wires) seen unseen row turns)
 
-module _ {g : Grid} {s : Store} {tail l unseen lowest count : ℕ} (q : Asks g s tail l) where
-  pub scan-start : {seen row : ℕ} → Own g l seen row → seen + unseen + 1 ≡ g .shape .combinations → lowest ≡ placed (g .shape .wires) seen row → count ≡ 2 ^ ones unseen → Scan g s tail l unseen lowest count s tail 0 0
+-- how many turns are left
+abbrev pub left : ℕ → ℕ → ℕ → Bool → ℕ
+left n unseen part true = 2 ^ ones unseen - shown n unseen part
+left n unseen part false = 0
+
+module _ {g : Grid} {s : Store} {tail l unseen lowest : ℕ} (q : Asks g s tail l) where
+  pub scan-start : {seen row : ℕ} → Own g l seen row → seen + unseen + 1 ≡ g .shape .combinations → lowest ≡ placed (g .shape .wires) seen row → Scan g s tail l unseen lowest s tail 0 true
   unfolding after
-  scan-start {seen} {row} o r e m = record {
+  scan-start {seen} {row} o r e = record {
     seen = seen;
     row = row;
     own = o;
     rest = r;
     start = e;
-    many = m;
+    turns = 0;
     at = sym (part-first (g .shape .wires) unseen);
-    most = omega arith;
+    goes = λ _. pow-pos (ones unseen);
+    ends = λ z. absurd (true≢false z);
     sweep = sweep-start (q .reach);
   }
 
-  module _ {t : Store} {last part k : ℕ} (w : Scan g s tail l unseen lowest count t last part k) where
-    spot-now : lowest + part ≡ spot (g .shape .wires) (w .seen) unseen (w .row) k
+  module _ {t : Store} {last part : ℕ} {more : Bool} (w : Scan g s tail l unseen lowest t last part more) where
+    spot-now : lowest + part ≡ spot (g .shape .wires) (w .seen) unseen (w .row) (w .turns)
     spot-now = ap₂ _+_ (w .start) (w .at)
 
     pub scan-within : lowest + part < g .shape .combinations
-    scan-within = omega (arith, spot-now, spot-within unseen (q .sound) (w .own) (w .rest) k)
+    scan-within = omega (arith, spot-now, spot-within unseen (q .sound) (w .own) (w .rest) (w .turns))
 
-    module _ (m : k < count) where
-      left : k < 2 ^ ones unseen
-      left = omega (arith, w .many)
+    module _ (m : more ≡ true) where
+      swept : Sweep g s tail l t last (lowest + part)
+      swept = rw spot-now (to-spot unseen (q .sound) (w .own) (w .rest) (w .turns) (w .goes m) (w .sweep))
 
-      pub scan-ask : Looks g t last l (lowest + part)
-      scan-ask = rw spot-now (sweep-ask (to-spot unseen (q .sound) (w .own) (w .rest) k left (w .sweep)) q (spot-within unseen (q .sound) (w .own) (w .rest) k) (spot-shows unseen (q .sound) (w .own) (w .rest) k))
+      turn : Turn g t last l (lowest + part)
+      turn = sweep-ask swept q scan-within (rw spot-now (spot-shows unseen (q .sound) (w .own) (w .rest) (w .turns)))
 
-      pub scan-turn : {u : Store} {end next : ℕ} → next ≡ placed (g .shape .wires) unseen (k + 1) → Looked g t last l (lowest + part) u end → Scan g s tail l unseen lowest count u end next (k + 1)
-      scan-turn {u} {end} e z = record {
-        seen = w .seen;
-        row = w .row;
-        own = w .own;
-        rest = w .rest;
-        start = w .start;
-        many = w .many;
-        at = e;
-        most = omega arith;
-        sweep = by-spot unseen (q .sound) (w .own) (w .rest) k left (w .sweep) (subst (λ (a : ℕ). Looked g t last l a u end) spot-now z);
-      }
+      pub scan-ask : {v : Aim} → aimOf g l ≡ v → Looks v t last l (lowest + part)
+      scan-ask e = subst (λ (v : Aim). Looks v t last l (lowest + part)) e (turn-asks turn)
 
-    pub scan-done : count ≤ k → Swept g s tail l t last
-    scan-done m = to-end unseen (q .sound) (w .own) (w .rest) (subst (λ (j : ℕ). Sweep g s tail l t last (after (g .shape .wires) (w .seen) unseen (w .row) j)) all (w .sweep))
-      where
-        all : k ≡ 2 ^ ones unseen
-        all = omega (arith, w .many, w .most)
+      module _ {next : ℕ} {on : Bool} (e : next ≡ placed (g .shape .wires) unseen (w .turns + 1)) (y : on ≡ true → next ≡ 0 → ⊥) (n : on ≡ false → next ≡ 0) where
+        goes-on : on ≡ true → w .turns + 1 < 2 ^ ones unseen
+        goes-on h =
+            by-cases (decLt (w .turns + 1) (2 ^ ones unseen)) (λ l. l)
+            (λ l. absurd (y h (e ∙ ap (placed (g .shape .wires) unseen) (full l) ∙ part-last (g .shape .wires) unseen)))
+          where
+            full : (w .turns + 1 < 2 ^ ones unseen → ⊥) → w .turns + 1 ≡ 2 ^ ones unseen
+            full l = omega (arith, w .goes m)
+
+        ends-now : on ≡ false → w .turns + 1 ≡ 2 ^ ones unseen
+        ends-now h =
+            by-cases (decLt (w .turns + 1) (2 ^ ones unseen))
+            (λ l. absurd (omega (arith, n h, e, part-first (g .shape .wires) unseen, part-rises (g .shape .wires) unseen 0 (w .turns + 1) (omega (arith, w .rest, q .sound .sizes .combinations)) (omega arith) l)))
+            (λ l. omega (arith, w .goes m))
+
+        pub scan-turn : {v : Aim} {u : Store} {end : ℕ} → aimOf g l ≡ v → Looked v t last l (lowest + part) u end → Scan g s tail l unseen lowest u end next on
+        scan-turn {v} {u} {end} f z = record {
+          seen = w .seen;
+          row = w .row;
+          own = w .own;
+          rest = w .rest;
+          start = w .start;
+          turns = w .turns + 1;
+          at = e;
+          goes = goes-on;
+          ends = ends-now;
+          sweep = by-spot unseen (q .sound) (w .own) (w .rest) (w .turns) (rw spot-now at turn) (rw spot-now at swept) (rw spot-now at same);
+        }
+          where
+            same : Looked (aimOf g l) t last l (lowest + part) u end
+            same = subst (λ (v : Aim). Looked v t last l (lowest + part) u end) (sym f) z
+
+        -- the parts before it are as many as the turns
+        many : (part k : ℕ) → part ≡ placed (g .shape .wires) unseen k → k < 2 ^ ones unseen → shown (g .shape .wires) unseen part ≡ k
+        many part k h z = ap (shown (g .shape .wires) unseen) h ∙ shown-placed (g .shape .wires) unseen k (omega (arith, w .rest, q .sound .sizes .combinations)) z
+
+        less : (b : Bool) → on ≡ b → left (g .shape .wires) unseen next b < left (g .shape .wires) unseen part true
+        less true h = omega (arith, many part (w .turns) (w .at) (w .goes m), many next (w .turns + 1) e (goes-on h), goes-on h)
+        less false h = omega (arith, many part (w .turns) (w .at) (w .goes m), w .goes m)
+
+        pub scan-less : left (g .shape .wires) unseen next on < left (g .shape .wires) unseen part more
+        scan-less = rw m (less on refl)
+
+    pub scan-done : more ≡ false → Swept g s tail l t last
+    scan-done m = to-end unseen (q .sound) (w .own) (w .rest) (subst (λ (j : ℕ). Sweep g s tail l t last (after (g .shape .wires) (w .seen) unseen (w .row) j)) (w .ends m) (w .sweep))
+
+-- the same, of the variables where the arms of a branch have met
+pub scan-as : {g : Grid} {s : Store} {tail l unseen lowest : ℕ} {t : Store} {last : ℕ} {u : Store} {end part : ℕ} {more : Bool} → Left t last u end → Scan g s tail l unseen lowest t last part more → Scan g s tail l unseen lowest u end part more
+scan-as {g} {s} {tail} {l} {unseen} {lowest} {last = last} {part = part} {more = more} d w = rw (d .end) (subst (λ (v : Store). Scan g s tail l unseen lowest v last part more) (left-path d) w)

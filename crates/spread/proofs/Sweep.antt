@@ -6,11 +6,12 @@ use native.Mathlib.Nat.{add-zero}
 use native.Mathlib.Omega.{arith}
 use borrow.Author.Count.{below-more, below-none}
 use Rattle.grid.specs.Grid.{Grid, shown-a, shown-b}
-use Rattle.spread.specs.Steps.{Shown}
-use Rattle.spread.specs.Reach.{Store, Reach, Grown, Found, Looks, Looked, Visited, Asks, Swept}
+use Rattle.spread.specs.Steps.{Shown, aimOf}
+use Rattle.spread.specs.Reach.{Store, Reach, Grown, Found, Looked, Visited, Asks, Swept}
 use Rattle.spread.specs.Reach.Visited.{begin, look, pass}
 use Rattle.spread.proofs.Aims.{step-within, step-shown}
 use Rattle.spread.proofs.Laws.{grown-refl, grown-trans}
+use Rattle.spread.proofs.Looked.{Turn, turn-grown, turn-found}
 
 -- from the store s with its end at `tail`, the combinations before b that show the row have been looked at
 pub record Sweep (g : Grid) (s : Store) (tail l : ℕ) (t : Store) (last b : ℕ) : Type 0 where
@@ -27,14 +28,14 @@ module _ {g : Grid} {s : Store} {tail l : ℕ} where
   sweep-start h = record { visited = begin; grown = grown-refl h; found = below-none (λ (k : ℕ). Found g s l k) }
 
   module _ {t : Store} {last b : ℕ} (w : Sweep g s tail l t last b) where
-    pub sweep-ask : Asks g s tail l → b < g .shape .combinations → At g l b → Looks g t last l b
+    pub sweep-ask : Asks g s tail l → b < g .shape .combinations → At g l b → Turn g t last l b
     sweep-ask q n z = record { sound = q .sound; reach = w .grown .reach; known = w .grown .still l (q .known); within = n; shows = z }
 
-    pub sweep-look : {u : Store} {end : ℕ} → At g l b → Looked g t last l b u end → Sweep g s tail l u end (b + 1)
-    sweep-look {u} z q = record {
-      visited = look (w .visited) z q;
-      grown = grown-trans (w .grown) (q .grown);
-      found = below-more (λ (k : ℕ). Found g u l k) b (λ k z m e. q .grown .still m (w .found k z m e)) (q .found);
+    pub sweep-look : {u : Store} {end : ℕ} → Turn g t last l b → Looked (aimOf g l) t last l b u end → Sweep g s tail l u end (b + 1)
+    sweep-look {u} k q = record {
+      visited = look (w .visited) (k .shows) q;
+      grown = grown-trans (w .grown) (turn-grown k q);
+      found = below-more (λ (k : ℕ). Found g u l k) b (λ i z m e. turn-grown k q .still m (w .found i z m e)) (turn-found k q);
     }
 
     pub sweep-pass : (At g l b → ⊥) → Sweep g s tail l t last (b + 1)

@@ -15,8 +15,8 @@ use mathlib.Core.Logic.{_⊎_}
 use mathlib.Core.List.{List}
 use lib.Dec.{eqb, ltb}
 use lib.ListN.{length, getD, set}
-use Rattle.grid.specs.Grid.{Grid, claims, shown-a, shown-b, fault, bit, Sound}
-use Rattle.spread.specs.Steps.{Shown, Step, Aimed}
+use Rattle.grid.specs.Grid.{Grid, claims, shown-a, shown-b, bit, Sound}
+use Rattle.spread.specs.Steps.{Shown, Step, Aim, aimOf, base}
 
 pub record Store : Type 0 where
   pub reached : List ℕ
@@ -117,31 +117,31 @@ pub record Offers (s : Store) (tail child k : ℕ) : Type 0 where
   pub queue : mark s child ≡ 0 → tail < length (s .queue)
   pub fits : tail ≤ 1024
 
--- what `look` asks and promises: one marked claim l and one combination a that shows its row
-pub record Looks (g : Grid) (s : Store) (tail l a : ℕ) : Type 0 where
-  pub sound : Sound g
-  pub reach : Reach g s tail
-  pub known : mark s l ≡ 1
-  pub within : a < g .shape .combinations
-  pub shows : Shown (g .shape .«rows_a») (shown-a g a) (shown-b g a) l
+-- the claim is not to be offered by the bit b, or has its mark
+abbrev pub Known : ℕ → ℕ → Type 0
+Known b mark = b ≡ 1 → mark ≡ 0 → ⊥
 
-pub record Looked (g : Grid) (s : Store) (tail l a : ℕ) (t : Store) (last : ℕ) : Type 0 where
-  pub base : ℕ
-  pub low : ℕ
-  pub high : ℕ
-  pub aimed : Aimed (g .shape .«rows_a») (shown-a g a) (shown-b g a) l base low high
+-- what `look` asks and promises: the two claims of the row that combination a shows to the other cell are offered, one after the other
+pub record Looks (v : Aim) (s : Store) (tail l a : ℕ) : Type 0 where
+  pub in-faults : a < length (v .faults)
+  pub in-other : a < length (v .other)
+  pub few : base v a < 1024
+  pub next : base v a + 1 < length (s .reached)
+  pub high-small : v .high < 8
+  pub to-base : Offers s tail (base v a) (v .low)
+  pub to-next : (t : Store) (mid : ℕ) → Offered s tail (bit (getD (v .faults) a 0) (v .low)) (base v a) l a t mid → Offers t mid (base v a + 1) (v .high)
+
+pub record Looked (v : Aim) (s : Store) (tail l a : ℕ) (t : Store) (last : ℕ) : Type 0 where
   pub middle : Store
   pub between : ℕ
-  pub to-base : Offered s tail (bit (fault g a) low) base l a middle between
-  pub to-next : Offered middle between (bit (fault g a) high) (base + 1) l a t last
-  pub grown : Grown g s tail t last
-  pub found : Found g t l a
+  pub to-base : Offered s tail (bit (getD (v .faults) a 0) (v .low)) (base v a) l a middle between
+  pub to-next : Offered middle between (bit (getD (v .faults) a 0) (v .high)) (base v a + 1) l a t last
 
 -- The first n combinations in rising order: each that shows the row of claim l was looked at, and each other passed over. So the store that is left does
 -- not hang on how the next combination is found.
 pub data Visited (g : Grid) (l : ℕ) (s : Store) (tail : ℕ) : ℕ → Store → ℕ → Type 0 where
   begin : Visited g l s tail 0 s tail
-  look : {n : ℕ} {t : Store} {mid : ℕ} {u : Store} {last : ℕ} → Visited g l s tail n t mid → Shown (g .shape .«rows_a») (shown-a g n) (shown-b g n) l → Looked g t mid l n u last → Visited g l s tail (n + 1) u last
+  look : {n : ℕ} {t : Store} {mid : ℕ} {u : Store} {last : ℕ} → Visited g l s tail n t mid → Shown (g .shape .«rows_a») (shown-a g n) (shown-b g n) l → Looked (aimOf g l) t mid l n u last → Visited g l s tail (n + 1) u last
   pass : {n : ℕ} {t : Store} {last : ℕ} → Visited g l s tail n t last → (Shown (g .shape .«rows_a») (shown-a g n) (shown-b g n) l → ⊥) → Visited g l s tail (n + 1) t last
 
 -- what `looks` asks and promises: one marked claim l and every combination

@@ -9,16 +9,16 @@ use grid::Shape;
 use wires::Claim;
 use wires::Combination;
 use wires::next_part;
-use wires::row_count;
 use wires::row_placed;
 ghost use mathlib.Core.Path.{_≡_};
+ghost use mathlib.Core.Bool.{false};
 ghost use Prim.Native.Nat.{_<_, _≤_};
 ghost use mathlib.Core.List.{_++_};
 ghost use lib.ListN.{length, drop, replicate};
 ghost use Rattle.board.specs.Board.{opposite as opp};
 ghost use Rattle.grid.specs.Grid.{grid, bit};
-ghost use Rattle.spread.specs.Steps.{Aimed, Sided};
-ghost use Rattle.spread.specs.Reach.{store, Offered, Offers, Looks, Looked, Asks, Swept, Starts, Spread};
+ghost use Rattle.spread.specs.Steps.{aim, Sided};
+ghost use Rattle.spread.specs.Reach.{store, Offered, Offers, Known, Looks, Looked, Asks, Swept, Starts, Spread};
 ghost use Rattle.spread.specs.Walk.{Backs, Written};
 
 fn bit_of(f: u8, k: usize) -> u8
@@ -61,68 +61,57 @@ fn offer(
     tail + 1
 }
 
-// Where the steps of a claim lead by one combination: claim 0 of the other cell's row, and the places of the fault bits for
-// that claim and for the next.
-struct Target {
-    base: u16,
+// How a claim looks at the board: the wires that its cell sees and its row there; the first row of the other cell, and the
+// places of the fault bits by which steps lead to a 0 claim and to a 1 claim there.
+struct Side {
+    seen: u32,
+    row: u32,
+    first: usize,
     low: usize,
     high: usize,
 }
 
-fn aim(rows_a: usize, x: usize, y: usize, claim: Claim) -> Target
-    requires { ⌜ («rows_a» ≤ 256) × (x < 256) × (y < 256) ⌝ }
-    ensures { λ r. ⌜ Aimed «rows_a» x y (claim .0) (r .base) (r .low) (r .high) ⌝ }
+fn side_of(shape: Shape, claim: Claim) -> Side
+    ensures { λ r. ⌜ Sided shape (claim .0) (r .seen) (r .row) (r .first) (r .low) (r .high) ⌝ }
 {
     let n = claim.0;
     let l = n as usize;
+    let row = l / 2;
     let value = l % 2;
-    if l / 2 < rows_a {
-        let base = 2 * (rows_a + y);
-        Target {
-            base: base as u16,
-            low: 2 * value + 1,
-            high: 2 * value,
-        }
-    } else {
-        let base = 2 * x;
-        Target {
-            base: base as u16,
-            low: 2 + value,
-            high: value,
-        }
-    }
-}
-
-// The wires that a claim's cell sees, and the number of the claim's row among that cell's.
-struct Side {
-    seen: u32,
-    row: u32,
-}
-
-fn side_of(shape: Shape, claim: Claim) -> Side
-    ensures { λ r. ⌜ Sided shape (claim .0) (r .seen) (r .row) ⌝ }
-{
-    let n = claim.0;
-    let row = n as usize / 2;
     if row < shape.rows_a {
         return Side {
             seen: shape.sees_a,
             row: row as u32,
+            first: shape.rows_a,
+            low: 2 * value + 1,
+            high: 2 * value,
         };
     }
     Side {
         seen: shape.sees_b,
         row: (row - shape.rows_a) as u32,
+        first: 0,
+        low: 2 + value,
+        high: value,
     }
 }
 
-// One look: the claims of the other cell's row to which a step by this combination leads are marked and queued. Returns the
-// queue's new end.
+// Is one of two bits of f set whose claim is not marked? A mark is 0 or 1, and one less than it is a mask of all bits or of none.
+fn some_new(f: u8, low: usize, high: usize, base: u8, next: u8) -> bool
+    requires { ⌜ (low < 8) × (high < 8) ⌝ }
+    ensures { λ r. ⌜ (r ≡ false → Known (bit f low) base × Known (bit f high) next) ⌝ }
+{
+    let to_base = (1u8 << low) & std::num::wrapping_sub_u8(base, 1);
+    let to_next = (1u8 << high) & std::num::wrapping_sub_u8(next, 1);
+    f & (to_base | to_next) != 0
+}
+
+// One look: the claims of the other cell's row to which a step by this combination leads are marked and queued. Mostly there is
+// nothing new, and then nothing is written. Returns the queue's new end.
 fn look(
-    shape: Shape,
-    row_a: &[u8],
-    row_b: &[u8],
     faults: &[u8],
+    other: &[u8],
+    own: Side,
     claim: Claim,
     combination: Combination,
     reached: &mut [u8],
@@ -131,21 +120,21 @@ fn look(
     by: &mut [u16],
     tail: usize,
 ) -> usize
-    requires { ⌜ Looks (grid shape (now «row_a») (now «row_b») (now faults)) (store (now reached) (now queue) (now from) (now by)) tail (claim .0) (combination .0) ⌝ }
-    ensures { λ r. ⌜ Looked (grid shape (now («row_a» .entry)) (now («row_b» .entry)) (now (faults .entry))) (store (now (reached .entry)) (now (queue .entry)) (now (from .entry)) (now (by .entry))) tail (claim .0) (combination .0) (store (now (reached .exit)) (now (queue .exit)) (now (from .exit)) (now (by .exit))) r ⌝ }
+    requires { ⌜ Looks (aim (now faults) (now other) (own .first) (own .low) (own .high)) (store (now reached) (now queue) (now from) (now by)) tail (claim .0) (combination .0) ⌝ }
+    ensures { λ r. ⌜ Looked (aim (now (faults .entry)) (now (other .entry)) (own .first) (own .low) (own .high)) (store (now (reached .entry)) (now (queue .entry)) (now (from .entry)) (now (by .entry))) tail (claim .0) (combination .0) (store (now (reached .exit)) (now (queue .exit)) (now (from .exit)) (now (by .exit))) r ⌝ }
 {
     let n = combination.0;
     let a = n as usize;
     let f = faults[a];
-    let x = row_a[a] as usize;
-    let y = row_b[a] as usize;
-    let t = aim(shape.rows_a, x, y, claim);
-    let base = t.base;
+    let base = 2 * (own.first + (other[a] as usize));
     let next = base + 1;
+    if !some_new(f, own.low, own.high, reached[base], reached[next]) {
+        return tail;
+    }
     let middle = offer(
         f,
-        t.low,
-        Claim(base),
+        own.low,
+        Claim(base as u16),
         claim,
         combination,
         reached,
@@ -156,8 +145,8 @@ fn look(
     );
     offer(
         f,
-        t.high,
-        Claim(next),
+        own.high,
+        Claim(next as u16),
         claim,
         combination,
         reached,
@@ -188,27 +177,41 @@ fn looks(
     let own = side_of(shape, claim);
     let unseen = (shape.combinations - 1) as u32 - own.seen;
     let lowest = row_placed(own.seen, own.row);
-    let count = row_count(unseen);
     let mut last = tail;
     let mut part: u32 = 0;
-    let mut k = 0;
-    while k < count {
+    let mut more = true;
+    while more {
         let a = lowest + part;
-        last = look(
-            shape,
-            row_a,
-            row_b,
-            faults,
-            claim,
-            Combination(a as u16),
-            reached,
-            queue,
-            from,
-            by,
-            last,
-        );
+        let combination = Combination(a as u16);
+        if own.first == shape.rows_a {
+            last = look(
+                faults,
+                row_b,
+                own,
+                claim,
+                combination,
+                reached,
+                queue,
+                from,
+                by,
+                last,
+            );
+        } else {
+            last = look(
+                faults,
+                row_a,
+                own,
+                claim,
+                combination,
+                reached,
+                queue,
+                from,
+                by,
+                last,
+            );
+        }
         part = next_part(part, unseen);
-        k += 1;
+        more = part != 0;
     }
     last
 }

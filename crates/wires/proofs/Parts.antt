@@ -143,3 +143,15 @@ part-first (suc n) unseen =
     ⊎-elim (λ e. omega (arith, placed-off n unseen 0 e, part-first n (unseen / 2)))
     (λ e. omega (arith, placed-on n unseen 0 e, part-first n (unseen / 2)))
     (low-digit unseen)
+
+-- after the last part comes 0 again
+pub part-last : (n unseen : ℕ) → placed n unseen (2 ^ ones unseen) ≡ 0
+unfolding placed
+part-last zero unseen = refl
+part-last (suc n) unseen =
+    ⊎-elim (λ e. omega (arith, placed-off n unseen (2 ^ ones unseen) e, ap (placed n (unseen / 2)) (rows-off unseen e), part-last n (unseen / 2)))
+    (λ e. omega (arith, placed-on n unseen (2 ^ ones unseen) e, rows-on unseen e, ap (placed n (unseen / 2)) (half e), part-last n (unseen / 2)))
+    (low-digit unseen)
+  where
+    half : unseen % 2 ≡ 1 → 2 ^ ones unseen / 2 ≡ 2 ^ ones (unseen / 2)
+    half e = omega (arith, rows-on unseen e)

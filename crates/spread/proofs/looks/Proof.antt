@@ -1,26 +1,34 @@
--- `spread::looks` meets its contract. The invariant of its loop is `Scan`: the first k combinations that show the row have been looked at. The measure is
--- what is left of the count.
+-- `spread::looks` meets its contract. The invariant of its loop is `Scan`: the combinations that show the row, up to the part at hand, have been looked at.
+-- The measure is how many parts are left.
 -- Assumes nothing.
-use Prim.Native.Nat.{_-_}
 use native.Mathlib.Omega.{arith}
+use mathlib.Core.Logic.{⊎-elim}
+use Prim.Native.Nat.{_+_, _-_}
+use mathlib.Core.Path.{_≡_}
 use borrow.Author.Needs.{needs}
-use Rattle.grid.specs.Grid.{grid}
+use borrow.Author.Tests.{eqb-true, eqb-false, not-true, not-false}
+use Rattle.wires.specs.Wires.{placed}
+use Rattle.grid.specs.Grid.{Grid, grid}
 use Rattle.spread.specs.Reach.{store}
 use Rattle.spread.proofs.Sizes.{few-combinations}
-use Rattle.spread.proofs.Scan.{Scan, own, scan-start, scan-within, scan-ask, scan-turn, scan-done}
+use Rattle.spread.proofs.Aims.{side-a, side-b}
+use Rattle.spread.proofs.Scan.{Scan, left, own, scan-start, scan-within, scan-ask, scan-turn, scan-less, scan-done, scan-as}
 use Rattle.spread.proofs.looks.Statement.{statement}
 use Rattle.spread.proofs.looks.Tie as tie
 
 abbrev Inv-loop : tie.InvT-loop
-Inv-loop shape row-a row-b faults claim reached₀ queue₀ from₀ by₀ tail unseen lowest count last₀ part₀ k₀ reached queue from by last part k =
-    Scan (grid shape row-a row-b faults) (store reached₀ queue₀ from₀ by₀) tail (claim .0) unseen lowest count (store reached queue from by) last part k
+Inv-loop shape row-a row-b faults claim reached₀ queue₀ from₀ by₀ tail own unseen lowest last₀ part₀ more₀ reached queue from by last part more =
+    Scan (grid shape row-a row-b faults) (store reached₀ queue₀ from₀ by₀) tail (claim .0) unseen lowest (store reached queue from by) last part more
 
 abbrev μ-loop : tie.MeasureT-loop
-μ-loop shape row-a row-b faults claim reached₀ queue₀ from₀ by₀ tail unseen lowest count last₀ part₀ k₀ reached queue from by last part k =
-    count - k
+μ-loop shape row-a row-b faults claim reached₀ queue₀ from₀ by₀ tail own unseen lowest last₀ part₀ more₀ reached queue from by last part more =
+    left (shape .wires) unseen part more
 
 abbrev start : tie.At-loop Inv-loop μ-loop → tie.Start Inv-loop μ-loop
-start c = c .before .before .before .before .before .before .before .before .before .before .before .before .before
+start c = c .before .before .before .before .before .before .before .before .before .before .before .before
+
+abbrev board : tie.Start Inv-loop μ-loop → Grid
+board c = grid (c .args .shape) (c .args .row-a .now) (c .args .row-b .now) (c .args .faults .now)
 
 side-of-requires : tie.Need-side-of-requires Inv-loop μ-loop
 side-of-requires c κs = search needs
@@ -37,14 +45,11 @@ sub-unseen-2 c = omega (arith, own (c .before .before .before .before .before .b
 row-placed-requires : tie.Need-row-placed-requires Inv-loop μ-loop
 row-placed-requires c κs = search needs
 
-row-count-requires : tie.Need-row-count-requires Inv-loop μ-loop
-row-count-requires c κs = search needs
-
 loop-holds : tie.Need-loop-holds Inv-loop μ-loop
 loop-holds c =
-    let q = c .before .before .before .before .before .before .before .before .before .before .before .before .pre in
-    let o = own (q .sound) (q .inside) (c .before .before .before .before .side-of .ensures) in
-    scan-start q o (omega (arith, o .mask)) (c .before .row-placed .ensures _ (omega (arith, o .mask, q .sound .sizes .combinations))) (c .row-count .ensures)
+    let q = c .before .before .before .before .before .before .before .before .before .before .before .pre in
+    let o = own (q .sound) (q .inside) (c .before .before .before .side-of .ensures) in
+    scan-start q o (omega (arith, o .mask)) (c .row-placed .ensures _ (omega (arith, o .mask, q .sound .sizes .combinations)))
 
 add-a : tie.Need-add-a Inv-loop μ-loop
 add-a c = omega (arith, scan-within (start (c .before) .pre) (c .before .loop .inv), few-combinations (start (c .before) .pre .sound))
@@ -54,24 +59,45 @@ cast-t22 c = omega (arith, scan-within (start (c .before) .pre) (c .before .loop
 
 look-requires : tie.Need-look-requires Inv-loop μ-loop
 look-requires c κs =
-    let at-loop = c .before .before .before .before .before in
-    scan-ask (start at-loop .pre) (at-loop .loop .inv) (c .before .before .before .before .loop-test .taken)
+    let at-loop = c .before .before .before .before .before .before .before .before in
+    let at-start = start at-loop in
+    scan-ask (at-start .pre) (at-loop .loop .inv) (c .before .before .before .before .before .before .before .loop-test .taken) (side-a (board at-start) (at-start .args .claim .0) (at-loop .before .before .before .before .side-of .ensures) (at-start .pre .sound) (c .before .before .before .before .if1 .taken))
+
+look-requires-2 : tie.Need-look-requires-2 Inv-loop μ-loop
+look-requires-2 c κs =
+    let at-loop = c .before .before .before .before .before .before .before .before in
+    let at-start = start at-loop in
+    scan-ask (at-start .pre) (at-loop .loop .inv) (c .before .before .before .before .before .before .before .loop-test .taken) (side-b (board at-start) (at-start .args .claim .0) (at-loop .before .before .before .before .side-of .ensures) (c .before .before .before .before .if1 .left))
 
 next-part-requires : tie.Need-next-part-requires Inv-loop μ-loop
 next-part-requires c κs = search needs
 
-add-k : tie.Need-add-k Inv-loop μ-loop
-add-k c = search needs
+next-is : (c : tie.After-next-part Inv-loop μ-loop) → c .next-part .result ≡ placed (start (c .before .before .before .before .before) .args .shape .wires) (c .before .before .before .before .before .before .before .before .before .before .before .before .before .before .before .before .before .args .shape .combinations - 1 - c .before .before .before .before .before .before .before .before .before .side-of .result .seen) (c .before .before .before .before .before .loop .inv .turns + 1)
+next-is c =
+    let at-loop = c .before .before .before .before .before in
+    let q = start at-loop .pre in
+    let w = at-loop .loop .inv in
+    c .next-part .ensures _ _ (omega (arith, q .sound .sizes .few)) (omega (arith, w .rest, q .sound .sizes .combinations)) (w .at)
 
 loop-less : tie.Need-loop-less Inv-loop μ-loop
-loop-less c = search needs
+loop-less c =
+    let at-loop = c .before .before .before .before .before in
+    let q = start at-loop .pre in
+    let w = at-loop .loop .inv in
+    scan-less q w (c .before .before .before .before .loop-test .taken) (next-is c) (λ h. eqb-false _ _ (not-true _ h)) (λ h. eqb-true _ _ (not-false _ h))
 
 loop-again : tie.Need-loop-again Inv-loop μ-loop
 loop-again c =
-    let at-loop = c .before .before .before .before .before .before .before .before .before .before .before .before .before .before .before in
+    let at-loop = c .before .before .before .before .before in
+    let at-start = start at-loop in
+    let q = at-start .pre in
     let w = at-loop .loop .inv in
-    let q = start at-loop .pre in
-    scan-turn q w (c .before .before .before .before .before .before .before .before .before .before .before .before .before .before .loop-test .taken) (c .next-part .ensures _ _ (omega (arith, q .sound .sizes .few)) (omega (arith, w .rest, q .sound .sizes .combinations)) (w .at)) (c .before .before .before .before .before .before .before .before .before .look .ensures)
+    let d = at-loop .before .before .before .before .side-of .ensures in
+    let m = c .before .before .before .before .loop-test .taken in
+    ⊎-elim
+    (λ b. scan-as (record { reached = b .14; queue = b .15; from = b .16; by = b .17; end = b .18 }) (scan-turn q w m (next-is c) (λ h. eqb-false _ _ (not-true _ h)) (λ h. eqb-true _ _ (not-false _ h)) (side-a (board at-start) (at-start .args .claim .0) d (q .sound) (b .0 .taken)) (b .5 .ensures)))
+    (λ b. scan-as (record { reached = b .14; queue = b .15; from = b .16; by = b .17; end = b .18 }) (scan-turn q w m (next-is c) (λ h. eqb-false _ _ (not-true _ h)) (λ h. eqb-true _ _ (not-false _ h)) (side-b (board at-start) (at-start .args .claim .0) d (b .0 .left)) (b .5 .ensures)))
+    (c .before .if1 .came)
 
 same-length : tie.Need-same-length Inv-loop μ-loop
 same-length c = c .before .loop .inv .sweep .grown .same .reached
@@ -99,13 +125,12 @@ looks-spec =
     cast-unseen
     sub-unseen-2
     row-placed-requires
-    row-count-requires
     loop-holds
     add-a
     cast-t22
     look-requires
+    look-requires-2
     next-part-requires
-    add-k
     loop-less
     loop-again
     same-length
