@@ -5,8 +5,8 @@
  *               it and, where none holds, each rule's
  *     solver    the faults of each combination are filled rule by rule and cleared excuse by excuse, the rows that it
  *               shows are filled wire by wire; then, for each row that is not settled, a breadth-first spread from its
- *               0 claim and, where that fails, from its 1 claim. Each reached claim scans all combinations and drops
- *               those that show another row; no spread stops early
+ *               0 claim and, where that fails, from its 1 claim. Each reached claim scans the combinations that show
+ *               its row, by the parts of the wires that its cell does not see; no spread stops early
  *     widener   the tables are checked, each rule is looked for among P's and each excuse among Q's, each row is copied
  *               from the row it widens
  *     writer    the description is judged and its sheet measured, then each mask is written from its lowest bit up
@@ -222,6 +222,7 @@ uint64_t check(const job &on, bytes sheet, bytes *tables)
 /* For each combination the rows that it shows, and four bits: 2x + y is set if A at x and B at y break a rule. */
 struct board {
     unsigned rows_a, rows_b, combinations;
+    uint32_t seen[2];
     uint8_t row_a[COMBINATIONS], row_b[COMBINATIONS], faults[COMBINATIONS];
 };
 
@@ -313,6 +314,15 @@ void fill_rows(unsigned wires, uint32_t seen, uint8_t *rows)
     }
 }
 
+/* The combination that shows a row, with every other wire at 0. */
+uint32_t row_placed(uint32_t seen, uint32_t row)
+{
+    uint32_t combination = 0;
+    for (; seen != 0; row >>= 1, seen &= seen - 1)
+        combination |= (row & 1) << std::countr_zero(seen);
+    return combination;
+}
+
 inline void offer(spread &of, claim child, claim parent, combination by)
 {
     if (of.reached[child.number])
@@ -323,24 +333,29 @@ inline void offer(spread &of, claim child, claim parent, combination by)
     of.by[child.number] = by;
 }
 
-/* Looks at all combinations that show the claim's row: its steps lead to claims of the row shown to the other cell.
- * A function of its own and a hint that most show another row keep the scan a short loop. */
-__attribute__((noinline)) void look(const board &on, claim at, spread &to)
+/* Looks at the combinations that show the claim's row, from the lowest up: its steps lead to claims of the row shown to
+ * the other cell. The next combination has the next part of the wires that the claim's cell does not see. */
+void look(const board &on, claim at, spread &to)
 {
     unsigned row = at.number / 2, value = at.number % 2;
     bool of_a = row < on.rows_a;
-    const uint8_t *own = of_a ? on.row_a : on.row_b, *other = of_a ? on.row_b : on.row_a;
-    unsigned shown = of_a ? row : row - on.rows_a, first = of_a ? on.rows_a : 0;
+    uint32_t seen = on.seen[of_a ? 0 : 1], unseen = on.combinations - 1 - seen;
+    const uint8_t *other = of_a ? on.row_b : on.row_a;
+    unsigned first = of_a ? on.rows_a : 0;
     unsigned zero = of_a ? 2 * value + 1 : 2 + value, one = of_a ? 2 * value : value;
-    for (unsigned a = 0; a < on.combinations; a++) {
-        if (__builtin_expect(own[a] != shown, 1))
-            continue;
-        unsigned child = 2 * (first + other[a]);
-        if (on.faults[a] >> zero & 1)
-            offer(to, {(uint16_t)child}, at, {(uint16_t)a});
-        if (on.faults[a] >> one & 1)
-            offer(to, {(uint16_t)(child + 1)}, at, {(uint16_t)a});
-    }
+    uint32_t lowest = row_placed(seen, of_a ? row : row - on.rows_a), part = 0;
+    do {
+        uint32_t a = lowest + part;
+        unsigned child = 2 * (first + other[a]), faults = on.faults[a];
+        unsigned fresh = (1u << zero & (to.reached[child] - 1u)) | (1u << one & (to.reached[child + 1] - 1u));
+        if (faults & fresh) {
+            if (faults >> zero & 1)
+                offer(to, {(uint16_t)child}, at, {(uint16_t)a});
+            if (faults >> one & 1)
+                offer(to, {(uint16_t)(child + 1)}, at, {(uint16_t)a});
+        }
+        part = (part - unseen) & unseen;
+    } while (part != 0);
 }
 
 void spread_from(const board &on, claim start, spread &to)
@@ -436,15 +451,6 @@ bool asks_no_more(const job &p, const job &q)
            all_within(masks(q.excuses, q.excuse_count), masks(p.excuses, p.excuse_count));
 }
 
-/* The combination that shows a row, with every other wire at 0. */
-uint32_t row_placed(uint32_t seen, uint32_t row)
-{
-    uint32_t combination = 0;
-    for (; seen != 0; row >>= 1, seen &= seen - 1)
-        combination |= (row & 1) << std::countr_zero(seen);
-    return combination;
-}
-
 size_t write_wide(uint8_t *out, size_t at, bytes narrow, uint32_t seen, uint32_t wide)
 {
     unsigned rows = 1u << std::popcount(wide);
@@ -537,6 +543,7 @@ template <form of> uint64_t solve_sheet(bytes sheet, uint8_t *answer, size_t ans
         return outcome;
     if (answer_len < LONGEST_ANSWER)
         return NO_ROOM;
+    std::copy(read.seen, read.seen + 2, filled.seen);
     filled.rows_a = 1u << __builtin_popcount(read.seen[0]);
     filled.rows_b = 1u << __builtin_popcount(read.seen[1]);
     filled.combinations = 1u << read.wires;
