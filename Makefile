@@ -19,7 +19,7 @@ BOOK_CASES = 2000
 # The form of the job sheets.
 FORM ?= 1
 
-VERSION = 0.5.0
+VERSION = 0.5.1
 PREFIX ?= /usr/local
 LIBRARY = target/staticlib/libormsvelg.a
 BENCH = target/bin/bench
