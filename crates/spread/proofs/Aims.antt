@@ -10,7 +10,7 @@ use lib.Pow.{pow-pos}
 use lib.ListN.{length}
 use native.Mathlib.Omega.{arith}
 use Rattle.grid.specs.Grid.{Grid, claims, shown-a, shown-b, fault, Sound, bit}
-use Rattle.spread.specs.Steps.{Shown, Step, Aim, aim, aimOf, base, Sided}
+use Rattle.spread.specs.Steps.{At, Step, Aim, aim, aimOf, base, Sided}
 use Rattle.spread.specs.Steps.Step.{a-to-b, b-to-a}
 use Rattle.spread.proofs.Sizes.{in-a, in-b}
 
@@ -19,12 +19,12 @@ step-within (a-to-b w l m f) = w
 step-within (b-to-a w l m f) = w
 
 -- a claim with a step by a is shown by a
-pub step-shown : {g : Grid} {l m a : ℕ} → Step g l m a → Shown (g .shape .«rows_a») (shown-a g a) (shown-b g a) l
+pub step-shown : {g : Grid} {l m a : ℕ} → Step g l m a → At g l a
 step-shown (a-to-b w l m f) = inl l
 step-shown (b-to-a w l m f) = inr l
 
 -- a shown claim is one of the board's
-pub shown-below : {g : Grid} {l a : ℕ} → Sound g → a < g .shape .combinations → Shown (g .shape .«rows_a») (shown-a g a) (shown-b g a) l → l < claims g
+pub shown-below : {g : Grid} {l a : ℕ} → Sound g → a < g .shape .combinations → At g l a → l < claims g
 shown-below {a = a} ok w s = ⊎-elim (λ e. omega (arith, in-a ok a w)) (λ e. omega (arith, in-b ok a w)) s
 
 -- each step from l by a leads to `base`, with bit `low` set, or to the next claim, with bit `high` set
@@ -89,11 +89,11 @@ module _ {g : Grid} {l a base low high : ℕ} (ok : Sound g) (w : a < g .shape .
 -- ---- by the cell of the claim
 
 module _ (g : Grid) (l : ℕ) where
-  pub aim-a : l / 2 < g .shape .«rows_a» → aimOf g l ≡ aim (g .faults) (g .row-b) (g .shape .«rows_a») (2 * (l % 2) + 1) (2 * (l % 2))
+  aim-a : l / 2 < g .shape .«rows_a» → aimOf g l ≡ aim (g .faults) (g .row-b) (g .shape .«rows_a») (2 * (l % 2) + 1) (2 * (l % 2))
   unfolding aimOf
   aim-a h = rw (lt-ltb (l / 2) (g .shape .«rows_a») h) refl
 
-  pub aim-b : g .shape .«rows_a» ≤ l / 2 → aimOf g l ≡ aim (g .faults) (g .row-a) 0 (2 + l % 2) (l % 2)
+  aim-b : g .shape .«rows_a» ≤ l / 2 → aimOf g l ≡ aim (g .faults) (g .row-a) 0 (2 + l % 2) (l % 2)
   unfolding aimOf
   aim-b h = rw (le-ltb (l / 2) (g .shape .«rows_a») h) refl
 
@@ -109,7 +109,7 @@ module _ (g : Grid) (l : ℕ) where
   pub aim-long : Sound g → g .shape .combinations ≤ length (aimOf g l .other)
   aim-long ok = by-cell (λ (v : Aim). g .shape .combinations ≤ length (v .other)) (λ h. ok .long-b) (λ h. ok .long-a)
 
-  pub aims : {a : ℕ} → Sound g → a < g .shape .combinations → Shown (g .shape .«rows_a») (shown-a g a) (shown-b g a) l → Aims g l a (base (aimOf g l) a) (aimOf g l .low) (aimOf g l .high)
+  pub aims : {a : ℕ} → Sound g → a < g .shape .combinations → At g l a → Aims g l a (base (aimOf g l) a) (aimOf g l .low) (aimOf g l .high)
   aims {a} ok w s =
       by-cell (λ (v : Aim). Aims g l a (base v a) (v .low) (v .high))
       (λ h. ⊎-elim (λ e. aims-a ok w e (refl, refl, refl)) (λ e. absurd (omega arith)) s)

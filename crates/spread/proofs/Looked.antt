@@ -4,8 +4,8 @@ use Prim.Native.Nat.{ℕ, _+_, _<_}
 use mathlib.Core.Path.{_≡_, _∙_}
 use mathlib.Core.Logic.{⊎-elim}
 use native.Mathlib.Omega.{arith}
-use Rattle.grid.specs.Grid.{Grid, claims, shown-a, shown-b, fault, bit, Sound}
-use Rattle.spread.specs.Steps.{Shown, aimOf, base}
+use Rattle.grid.specs.Grid.{Grid, claims, fault, bit, Sound}
+use Rattle.spread.specs.Steps.{At, aimOf, base}
 use Rattle.spread.specs.Reach.{Store, mark, Placed, Reach, Grown, Found, Offered, Looks, Looked}
 use Rattle.spread.proofs.Aims.{Aims, aims, aim-faults, aim-long, shown-below}
 use Rattle.spread.proofs.Laws.{offers, offered, offered-mark, grown-trans}
@@ -16,7 +16,7 @@ pub record Turn (g : Grid) (s : Store) (tail l a : ℕ) : Type 0 where
   pub reach : Reach g s tail
   pub known : mark s l ≡ 1
   pub within : a < g .shape .combinations
-  pub shows : Shown (g .shape .«rows_a») (shown-a g a) (shown-b g a) l
+  pub shows : At g l a
 
 module _ {g : Grid} {s : Store} {tail l a : ℕ} (k : Turn g s tail l a) where
   m : Aims g l a (base (aimOf g l) a) (aimOf g l .low) (aimOf g l .high)

@@ -13,12 +13,12 @@ use Rattle.wires.specs.Wires.{shown, placed}
 use Rattle.wires.proofs.Rows.{row-below, shown-placed}
 use Rattle.wires.proofs.Parts.{parts-of, part-shows, part-below, part-rises, part-first, part-last}
 use Rattle.grid.specs.Grid.{Grid, claims, Sound}
-use Rattle.spread.specs.Steps.{Aim, aimOf, Sided}
+use Rattle.spread.specs.Steps.{At, Aim, aimOf, Sided}
 use Rattle.spread.specs.Reach.{Store, Left, Looks, Looked, Asks, Swept}
 use Rattle.spread.proofs.Sizes.{in-a}
 use Rattle.spread.proofs.Laws.{left-path}
 use Rattle.spread.proofs.Looked.{Turn, turn-asks}
-use Rattle.spread.proofs.Sweep.{Sweep, At, sweep-start, sweep-ask, sweep-look, sweep-to, sweep-done}
+use Rattle.spread.proofs.Sweep.{Sweep, sweep-start, sweep-ask, sweep-look, sweep-to, sweep-done}
 
 -- the row of a claim's own cell: a combination shows it exactly if it shows the claim's row
 pub record Own (g : Grid) (l seen row : ℕ) : Type 0 where
@@ -59,10 +59,10 @@ module _ {g : Grid} {l seen row : ℕ} (unseen : ℕ) (ok : Sound g) (o : Own g 
   sum : seen + unseen + 1 ≡ 2 ^ g .shape .wires
   sum = rest ∙ ok .sizes .combinations
 
-  pub spot-within : (k : ℕ) → spot (g .shape .wires) seen unseen row k < g .shape .combinations
+  spot-within : (k : ℕ) → spot (g .shape .wires) seen unseen row k < g .shape .combinations
   spot-within k = omega (arith, part-below (g .shape .wires) seen unseen row k sum, ok .sizes .combinations)
 
-  pub spot-shows : (k : ℕ) → At g l (spot (g .shape .wires) seen unseen row k)
+  spot-shows : (k : ℕ) → At g l (spot (g .shape .wires) seen unseen row k)
   spot-shows k = o .from (spot (g .shape .wires) seen unseen row k) (spot-within k) (part-shows (g .shape .wires) seen unseen row k sum (o .low))
 
   spot-is : (a : ℕ) → a < g .shape .combinations → At g l a → spot (g .shape .wires) seen unseen row (shown (g .shape .wires) unseen a) ≡ a

@@ -5,8 +5,8 @@ use mathlib.Core.Path.{_≡_, sym, subst}
 use native.Mathlib.Nat.{add-zero}
 use native.Mathlib.Omega.{arith}
 use borrow.Author.Count.{below-more, below-none}
-use Rattle.grid.specs.Grid.{Grid, shown-a, shown-b}
-use Rattle.spread.specs.Steps.{Shown, aimOf}
+use Rattle.grid.specs.Grid.{Grid}
+use Rattle.spread.specs.Steps.{At, aimOf}
 use Rattle.spread.specs.Reach.{Store, Reach, Grown, Found, Looked, Visited, Asks, Swept}
 use Rattle.spread.specs.Reach.Visited.{begin, look, pass}
 use Rattle.spread.proofs.Aims.{step-within, step-shown}
@@ -18,10 +18,6 @@ pub record Sweep (g : Grid) (s : Store) (tail l : ℕ) (t : Store) (last b : ℕ
   pub visited : Visited g l s tail b t last
   pub grown : Grown g s tail t last
   pub found : (k : ℕ) → k < b → Found g t l k
-
--- combination a shows the row of claim l
-abbrev pub At : Grid → ℕ → ℕ → Type 0
-At g l a = Shown (g .shape .«rows_a») (shown-a g a) (shown-b g a) l
 
 module _ {g : Grid} {s : Store} {tail l : ℕ} where
   pub sweep-start : Reach g s tail → Sweep g s tail l s tail 0
@@ -38,7 +34,7 @@ module _ {g : Grid} {s : Store} {tail l : ℕ} where
       found = below-more (λ (k : ℕ). Found g u l k) b (λ i z m e. turn-grown k q .still m (w .found i z m e)) (turn-found k q);
     }
 
-    pub sweep-pass : (At g l b → ⊥) → Sweep g s tail l t last (b + 1)
+    sweep-pass : (At g l b → ⊥) → Sweep g s tail l t last (b + 1)
     sweep-pass z = record {
       visited = pass (w .visited) z;
       grown = w .grown;

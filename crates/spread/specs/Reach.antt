@@ -15,8 +15,8 @@ use mathlib.Core.Logic.{_⊎_}
 use mathlib.Core.List.{List}
 use lib.Dec.{eqb, ltb}
 use lib.ListN.{length, getD, set}
-use Rattle.grid.specs.Grid.{Grid, claims, shown-a, shown-b, bit, Sound}
-use Rattle.spread.specs.Steps.{Shown, Step, Aim, aimOf, base}
+use Rattle.grid.specs.Grid.{Grid, claims, bit, Sound}
+use Rattle.spread.specs.Steps.{At, Step, Aim, aimOf, base}
 
 pub record Store : Type 0 where
   pub reached : List ℕ
@@ -141,8 +141,8 @@ pub record Looked (v : Aim) (s : Store) (tail l a : ℕ) (t : Store) (last : ℕ
 -- not hang on how the next combination is found.
 pub data Visited (g : Grid) (l : ℕ) (s : Store) (tail : ℕ) : ℕ → Store → ℕ → Type 0 where
   begin : Visited g l s tail 0 s tail
-  look : {n : ℕ} {t : Store} {mid : ℕ} {u : Store} {last : ℕ} → Visited g l s tail n t mid → Shown (g .shape .«rows_a») (shown-a g n) (shown-b g n) l → Looked (aimOf g l) t mid l n u last → Visited g l s tail (n + 1) u last
-  pass : {n : ℕ} {t : Store} {last : ℕ} → Visited g l s tail n t last → (Shown (g .shape .«rows_a») (shown-a g n) (shown-b g n) l → ⊥) → Visited g l s tail (n + 1) t last
+  look : {n : ℕ} {t : Store} {mid : ℕ} {u : Store} {last : ℕ} → Visited g l s tail n t mid → At g l n → Looked (aimOf g l) t mid l n u last → Visited g l s tail (n + 1) u last
+  pass : {n : ℕ} {t : Store} {last : ℕ} → Visited g l s tail n t last → (At g l n → ⊥) → Visited g l s tail (n + 1) t last
 
 -- what `looks` asks and promises: one marked claim l and every combination
 pub record Asks (g : Grid) (s : Store) (tail l : ℕ) : Type 0 where

@@ -1,5 +1,5 @@
 -- One step of a grid's claims, as the arrays tell it.
---     Shown     a claim's row is one of the two rows that are shown
+--     Shown     a claim's row is one of the two rows that are shown; At, that a combination shows
 --     Step      from claim l to claim m by combination a: the two are of different cells, a shows both rows, and with l true and m false some rule is broken at a
 --     aimOf     where the steps of a claim lead
 --     Sided     which row of which cell a claim is of
@@ -16,6 +16,10 @@ use Rattle.grid.specs.declared.Shape.{Shape}
 
 abbrev pub Shown : ℕ → ℕ → ℕ → ℕ → Type 0
 Shown rows x y l = (l / 2 ≡ x) ⊎ (l / 2 ≡ rows + y)
+
+-- combination a shows the row of claim l
+abbrev pub At : Grid → ℕ → ℕ → Type 0
+At g l a = Shown (g .shape .«rows_a») (shown-a g a) (shown-b g a) l
 
 pub data Step (g : Grid) (l m a : ℕ) : Type 0 where
   a-to-b : a < g .shape .combinations → l / 2 ≡ shown-a g a → m / 2 ≡ g .shape .«rows_a» + shown-b g a → bit (fault g a) (2 * (l % 2) + (1 - m % 2)) ≡ 1 → Step g l m a
