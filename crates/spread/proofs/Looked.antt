@@ -5,7 +5,7 @@ use mathlib.Core.Path.{_≡_, _∙_}
 use mathlib.Core.Logic.{⊎-elim}
 use native.Mathlib.Omega.{arith}
 use Rattle.grid.specs.Grid.{Grid, claims, fault, bit, Sound}
-use Rattle.spread.specs.Steps.{At, aimOf, base}
+use Rattle.spread.specs.Steps.{ShowsRow, aimOf, base}
 use Rattle.spread.specs.Reach.{Store, mark, Placed, Reach, Grown, Found, Offered, Looks, Looked}
 use Rattle.spread.proofs.Aims.{Aims, aims, aim-faults, aim-long, shown-below}
 use Rattle.spread.proofs.Laws.{offers, offered, offered-mark, grown-trans}
@@ -16,10 +16,10 @@ pub record Turn (g : Grid) (s : Store) (tail l a : ℕ) : Type 0 where
   pub reach : Reach g s tail
   pub known : mark s l ≡ 1
   pub within : a < g .shape .combinations
-  pub shows : At g l a
+  pub shows : ShowsRow g l a
 
 module _ {g : Grid} {s : Store} {tail l a : ℕ} (k : Turn g s tail l a) where
-  m : Aims g l a (base (aimOf g l) a) (aimOf g l .low) (aimOf g l .high)
+  m : Aims g l a (base (aimOf g l) a) (aimOf g l .own .low) (aimOf g l .own .high)
   m = aims g l (k .sound) (k .within) (k .shows)
 
   p : Placed s tail l
@@ -28,24 +28,24 @@ module _ {g : Grid} {s : Store} {tail l a : ℕ} (k : Turn g s tail l a) where
   low-inside : base (aimOf g l) a < claims g
   low-inside = omega (arith, m .inside)
 
-  module _ {t : Store} {mid : ℕ} (o : Offered s tail (bit (fault g a) (aimOf g l .low)) (base (aimOf g l) a) l a t mid) where
+  module _ {t : Store} {mid : ℕ} (o : Offered s tail (bit (fault g a) (aimOf g l .own .low)) (base (aimOf g l) a) l a t mid) where
     first : Grown g s tail t mid
     first = offered (k .reach) low-inside p (m .at-low) o
 
     on : Placed t mid l
     on = record { place = p .place; before = omega (arith, p .before, first .longer); is = first .kept (p .place) (p .before) ∙ p .is }
 
-    module _ {u : Store} {last : ℕ} (q : Offered t mid (bit (fault g a) (aimOf g l .high)) (base (aimOf g l) a + 1) l a u last) where
+    module _ {u : Store} {last : ℕ} (q : Offered t mid (bit (fault g a) (aimOf g l .own .high)) (base (aimOf g l) a + 1) l a u last) where
       second : Grown g t mid u last
       second = offered (first .reach) (m .inside) on (m .at-high) q
 
       found : Found g u l a
       found n z = ⊎-elim (λ e. rw (e .0) (at-base (e .1))) (λ e. rw (e .0) (at-next (e .1))) (m .all n z)
         where
-          at-base : bit (fault g a) (aimOf g l .low) ≡ 1 → mark u (base (aimOf g l) a) ≡ 1
+          at-base : bit (fault g a) (aimOf g l .own .low) ≡ 1 → mark u (base (aimOf g l) a) ≡ 1
           at-base f = second .still (base (aimOf g l) a) (offered-mark (k .reach) low-inside p (m .at-low) o f)
 
-          at-next : bit (fault g a) (aimOf g l .high) ≡ 1 → mark u (base (aimOf g l) a + 1) ≡ 1
+          at-next : bit (fault g a) (aimOf g l .own .high) ≡ 1 → mark u (base (aimOf g l) a + 1) ≡ 1
           at-next f = offered-mark (first .reach) (m .inside) on (m .at-high) q f
 
   pub turn-asks : Looks (aimOf g l) s tail l a

@@ -45,7 +45,7 @@ module _ (f low high up on : ℕ) (h : bitAnd f (bitOr (bitAnd (1 * 2 ^ low % 2 
       b
 
 -- a look that finds nothing new leaves everything as it is
-pub looked-none : {v : Aim} {s : Store} {tail l a : ℕ} → Known (bit (getD (v .faults) a 0) (v .low)) (mark s (base v a)) × Known (bit (getD (v .faults) a 0) (v .high)) (mark s (base v a + 1)) → Looked v s tail l a s tail
+pub looked-none : {v : Aim} {s : Store} {tail l a : ℕ} → Known (bit (getD (v .faults) a 0) (v .own .low)) (mark s (base v a)) × Known (bit (getD (v .faults) a 0) (v .own .high)) (mark s (base v a + 1)) → Looked v s tail l a s tail
 looked-none {v} {s} {tail} {l} {a} k = record { middle = s; between = tail; to-base = inr (k .0, same); to-next = inr (k .1, same) }
   where
     same : Left s tail s tail

@@ -13,9 +13,11 @@ use Rattle.wires.specs.Wires.{shown, placed}
 use Rattle.wires.proofs.Rows.{row-below, shown-placed}
 use Rattle.wires.proofs.Parts.{parts-of, part-shows, part-below, part-rises, part-first, part-last}
 use Rattle.grid.specs.Grid.{Grid, claims, Sound}
-use Rattle.spread.specs.Steps.{At, Aim, aimOf, Sided}
+use Rattle.spread.specs.Steps.{ShowsRow, Aim, aimOf, sideOf}
 use Rattle.spread.specs.Reach.{Store, Left, Looks, Looked, Asks, Swept}
+use Rattle.spread.specs.declared.Side.{Side}
 use Rattle.spread.proofs.Sizes.{in-a}
+use Rattle.spread.proofs.Aims.{of-a, of-b}
 use Rattle.spread.proofs.Laws.{left-path}
 use Rattle.spread.proofs.Looked.{Turn, turn-asks}
 use Rattle.spread.proofs.Sweep.{Sweep, sweep-start, sweep-ask, sweep-look, sweep-to, sweep-done}
@@ -24,28 +26,30 @@ use Rattle.spread.proofs.Sweep.{Sweep, sweep-start, sweep-ask, sweep-lo
 pub record Own (g : Grid) (l seen row : ℕ) : Type 0 where
   pub mask : seen < g .shape .combinations
   pub low : row < 2 ^ ones seen
-  pub to : (a : ℕ) → a < g .shape .combinations → At g l a → shown (g .shape .wires) seen a ≡ row
-  pub from : (a : ℕ) → a < g .shape .combinations → shown (g .shape .wires) seen a ≡ row → At g l a
+  pub to : (a : ℕ) → a < g .shape .combinations → ShowsRow g l a → shown (g .shape .wires) seen a ≡ row
+  pub from : (a : ℕ) → a < g .shape .combinations → shown (g .shape .wires) seen a ≡ row → ShowsRow g l a
 
-module _ {g : Grid} {l seen row first low high : ℕ} (ok : Sound g) (inside : l < claims g) (d : Sided (g .shape) l seen row first low high) where
-  own-a : l / 2 < g .shape .«rows_a» → (seen ≡ g .shape .«sees_a») × (row ≡ l / 2) → Own g l seen row
-  own-a h e = rw (e .0) (record {
+module _ {g : Grid} {l : ℕ} (ok : Sound g) (inside : l < claims g) where
+  own-a : l / 2 < g .shape .«rows_a» → Own g l (g .shape .«sees_a») (l / 2)
+  own-a h = record {
     mask = omega (arith, ok .sizes .mask-a, ok .sizes .combinations);
     low = omega (arith, ok .sizes .rows-a);
     to = λ a w z. ⊎-elim (λ q. sym (ok .is-a a w) ∙ omega arith) (λ q. absurd (omega arith)) z;
     from = λ a w q. inl (omega (arith, ok .is-a a w));
-  })
+  }
 
-  own-b : g .shape .«rows_a» ≤ l / 2 → (seen ≡ g .shape .«sees_b») × (row ≡ l / 2 - g .shape .«rows_a») → Own g l seen row
-  own-b h e = rw (e .0) (record {
+  own-b : g .shape .«rows_a» ≤ l / 2 → Own g l (g .shape .«sees_b») (l / 2 - g .shape .«rows_a»)
+  own-b h = record {
     mask = omega (arith, ok .sizes .mask-b, ok .sizes .combinations);
     low = omega (arith, ok .sizes .rows-b);
     to = λ a w z. ⊎-elim (λ q. absurd (omega (arith, in-a ok a w))) (λ q. sym (ok .is-b a w) ∙ omega arith) z;
     from = λ a w q. inr (omega (arith, ok .is-b a w));
-  })
+  }
 
-  pub own : Own g l seen row
-  own = by-cases (decLt (l / 2) (g .shape .«rows_a»)) (λ h. own-a h (d .of-a h .0, d .of-a h .1)) (λ h. own-b (omega arith) (d .of-b (omega arith) .0, d .of-b (omega arith) .1))
+  pub own : {side : Side} → side ≡ sideOf (g .shape) l → Own g l (side .seen) (side .row)
+  own d =
+      by-cases (decLt (l / 2) (g .shape .«rows_a»)) (λ h. subst (λ (s : Side). Own g l (s .seen) (s .row)) (sym (d ∙ of-a (g .shape) l h)) (own-a h))
+      (λ h. subst (λ (s : Side). Own g l (s .seen) (s .row)) (sym (d ∙ of-b (g .shape) l (omega arith))) (own-b (omega arith)))
 
 -- the k-th combination that shows the row, and the place after the first k of them
 abbrev pub spot : ℕ → ℕ → ℕ → ℕ → ℕ → ℕ
@@ -62,17 +66,17 @@ module _ {g : Grid} {l seen row : ℕ} (unseen : ℕ) (ok : Sound g) (o : Own g 
   spot-within : (k : ℕ) → spot (g .shape .wires) seen unseen row k < g .shape .combinations
   spot-within k = omega (arith, part-below (g .shape .wires) seen unseen row k sum, ok .sizes .combinations)
 
-  spot-shows : (k : ℕ) → At g l (spot (g .shape .wires) seen unseen row k)
+  spot-shows : (k : ℕ) → ShowsRow g l (spot (g .shape .wires) seen unseen row k)
   spot-shows k = o .from (spot (g .shape .wires) seen unseen row k) (spot-within k) (part-shows (g .shape .wires) seen unseen row k sum (o .low))
 
-  spot-is : (a : ℕ) → a < g .shape .combinations → At g l a → spot (g .shape .wires) seen unseen row (shown (g .shape .wires) unseen a) ≡ a
+  spot-is : (a : ℕ) → a < g .shape .combinations → ShowsRow g l a → spot (g .shape .wires) seen unseen row (shown (g .shape .wires) unseen a) ≡ a
   spot-is a w z = ap (λ (r : ℕ). placed (g .shape .wires) seen r + placed (g .shape .wires) unseen (shown (g .shape .wires) unseen a)) (sym (o .to a w z)) ∙ parts-of (g .shape .wires) seen unseen a sum (omega (arith, ok .sizes .combinations))
 
   rises : (k j : ℕ) → k < j → j < 2 ^ ones unseen → spot (g .shape .wires) seen unseen row k < spot (g .shape .wires) seen unseen row j
   rises k j h m = omega (arith, part-rises (g .shape .wires) unseen k j (omega arith) h m)
 
   -- one that comes after the first k is the k-th or a later one
-  later : (k a : ℕ) → k ≤ 2 ^ ones unseen → after (g .shape .wires) seen unseen row k ≤ a → a < g .shape .combinations → At g l a → k ≤ shown (g .shape .wires) unseen a
+  later : (k a : ℕ) → k ≤ 2 ^ ones unseen → after (g .shape .wires) seen unseen row k ≤ a → a < g .shape .combinations → ShowsRow g l a → k ≤ shown (g .shape .wires) unseen a
   unfolding after
   later zero a m h w z = omega arith
   later (suc k) a m h w z =
@@ -94,7 +98,7 @@ module _ {g : Grid} {l seen row : ℕ} (unseen : ℕ) (ok : Sound g) (o : Own g 
   after-within (suc k) = omega (arith, spot-within k)
 
   -- none lies between the place after the first k and the k-th
-  none-before : (k : ℕ) → k < 2 ^ ones unseen → (a : ℕ) → after (g .shape .wires) seen unseen row k ≤ a → a < spot (g .shape .wires) seen unseen row k → At g l a → ⊥
+  none-before : (k : ℕ) → k < 2 ^ ones unseen → (a : ℕ) → after (g .shape .wires) seen unseen row k ≤ a → a < spot (g .shape .wires) seen unseen row k → ShowsRow g l a → ⊥
   none-before k m a h p z =
       by-cases (decLt k (shown (g .shape .wires) unseen a)) (λ q. absurd (omega (arith, rises k (shown (g .shape .wires) unseen a) q (row-below (g .shape .wires) unseen a), spot-is a w z)))
       (λ q. absurd (omega (arith, spot-is a w z, ap (placed (g .shape .wires) unseen) (same q))))
@@ -119,7 +123,7 @@ module _ {g : Grid} {l seen row : ℕ} (unseen : ℕ) (ok : Sound g) (o : Own g 
     to-end : Sweep g s tail l t last (after (g .shape .wires) seen unseen row (2 ^ ones unseen)) → Swept g s tail l t last
     to-end w = sweep-done (sweep-to (after-within (2 ^ ones unseen)) none w)
       where
-        none : (a : ℕ) → after (g .shape .wires) seen unseen row (2 ^ ones unseen) ≤ a → a < g .shape .combinations → At g l a → ⊥
+        none : (a : ℕ) → after (g .shape .wires) seen unseen row (2 ^ ones unseen) ≤ a → a < g .shape .combinations → ShowsRow g l a → ⊥
         none a h p z = omega (arith, later (2 ^ ones unseen) a (omega arith) h p z, row-below (g .shape .wires) unseen a)
 
 -- The loop after k turns: `part` is the k-th part of the wires not seen, what comes before the place after the first k has been looked at, and there are more

@@ -6,7 +6,7 @@ use native.Mathlib.Nat.{add-zero}
 use native.Mathlib.Omega.{arith}
 use borrow.Author.Count.{below-more, below-none}
 use Rattle.grid.specs.Grid.{Grid}
-use Rattle.spread.specs.Steps.{At, aimOf}
+use Rattle.spread.specs.Steps.{ShowsRow, aimOf}
 use Rattle.spread.specs.Reach.{Store, Reach, Grown, Found, Looked, Visited, Asks, Swept}
 use Rattle.spread.specs.Reach.Visited.{begin, look, pass}
 use Rattle.spread.proofs.Aims.{step-within, step-shown}
@@ -24,7 +24,7 @@ module _ {g : Grid} {s : Store} {tail l : ℕ} where
   sweep-start h = record { visited = begin; grown = grown-refl h; found = below-none (λ (k : ℕ). Found g s l k) }
 
   module _ {t : Store} {last b : ℕ} (w : Sweep g s tail l t last b) where
-    pub sweep-ask : Asks g s tail l → b < g .shape .combinations → At g l b → Turn g t last l b
+    pub sweep-ask : Asks g s tail l → b < g .shape .combinations → ShowsRow g l b → Turn g t last l b
     sweep-ask q n z = record { sound = q .sound; reach = w .grown .reach; known = w .grown .still l (q .known); within = n; shows = z }
 
     pub sweep-look : {u : Store} {end : ℕ} → Turn g t last l b → Looked (aimOf g l) t last l b u end → Sweep g s tail l u end (b + 1)
@@ -34,7 +34,7 @@ module _ {g : Grid} {s : Store} {tail l : ℕ} where
       found = below-more (λ (k : ℕ). Found g u l k) b (λ i z m e. turn-grown k q .still m (w .found i z m e)) (turn-found k q);
     }
 
-    sweep-pass : (At g l b → ⊥) → Sweep g s tail l t last (b + 1)
+    sweep-pass : (ShowsRow g l b → ⊥) → Sweep g s tail l t last (b + 1)
     sweep-pass z = record {
       visited = pass (w .visited) z;
       grown = w .grown;
@@ -45,7 +45,7 @@ module _ {g : Grid} {s : Store} {tail l : ℕ} where
   sweep-done w = record { visited = w .visited; grown = w .grown; found = λ k m e. w .found k (step-within e) m e }
 
   -- the d combinations from b on do not show the row; and those from b on to c
-  sweep-on : {t : Store} {last b : ℕ} (d : ℕ) → ((a : ℕ) → b ≤ a → a < b + d → At g l a → ⊥) → Sweep g s tail l t last b → Sweep g s tail l t last (b + d)
+  sweep-on : {t : Store} {last b : ℕ} (d : ℕ) → ((a : ℕ) → b ≤ a → a < b + d → ShowsRow g l a → ⊥) → Sweep g s tail l t last b → Sweep g s tail l t last (b + d)
   sweep-on {t} {last} {b} zero h w = subst (Sweep g s tail l t last) (sym (add-zero b)) w
   sweep-on {t} {last} {b} (suc d) h w =
       subst (Sweep g s tail l t last) (step b d)
@@ -54,7 +54,7 @@ module _ {g : Grid} {s : Store} {tail l : ℕ} where
       step : (b d : ℕ) → b + d + 1 ≡ b + suc d
       step b d = omega arith
 
-  pub sweep-to : {t : Store} {last b c : ℕ} → b ≤ c → ((a : ℕ) → b ≤ a → a < c → At g l a → ⊥) → Sweep g s tail l t last b → Sweep g s tail l t last c
+  pub sweep-to : {t : Store} {last b c : ℕ} → b ≤ c → ((a : ℕ) → b ≤ a → a < c → ShowsRow g l a → ⊥) → Sweep g s tail l t last b → Sweep g s tail l t last c
   sweep-to {t} {last} {b} {c} n h w = subst (Sweep g s tail l t last) sum (sweep-on {b = b} (c - b) (λ a p q. h a p (omega arith)) w)
     where
       sum : b + (c - b) ≡ c

@@ -16,7 +16,7 @@ use mathlib.Core.List.{List}
 use lib.Dec.{eqb, ltb}
 use lib.ListN.{length, getD, set}
 use Rattle.grid.specs.Grid.{Grid, claims, bit, Sound}
-use Rattle.spread.specs.Steps.{At, Step, Aim, aimOf, base}
+use Rattle.spread.specs.Steps.{ShowsRow, Step, Aim, aimOf, base}
 
 pub record Store : Type 0 where
   pub reached : List ℕ
@@ -127,22 +127,22 @@ pub record Looks (v : Aim) (s : Store) (tail l a : ℕ) : Type 0 where
   pub in-other : a < length (v .other)
   pub few : base v a < 1024
   pub next : base v a + 1 < length (s .reached)
-  pub high-small : v .high < 8
-  pub to-base : Offers s tail (base v a) (v .low)
-  pub to-next : (t : Store) (mid : ℕ) → Offered s tail (bit (getD (v .faults) a 0) (v .low)) (base v a) l a t mid → Offers t mid (base v a + 1) (v .high)
+  pub high-small : v .own .high < 8
+  pub to-base : Offers s tail (base v a) (v .own .low)
+  pub to-next : (t : Store) (mid : ℕ) → Offered s tail (bit (getD (v .faults) a 0) (v .own .low)) (base v a) l a t mid → Offers t mid (base v a + 1) (v .own .high)
 
 pub record Looked (v : Aim) (s : Store) (tail l a : ℕ) (t : Store) (last : ℕ) : Type 0 where
   pub middle : Store
   pub between : ℕ
-  pub to-base : Offered s tail (bit (getD (v .faults) a 0) (v .low)) (base v a) l a middle between
-  pub to-next : Offered middle between (bit (getD (v .faults) a 0) (v .high)) (base v a + 1) l a t last
+  pub to-base : Offered s tail (bit (getD (v .faults) a 0) (v .own .low)) (base v a) l a middle between
+  pub to-next : Offered middle between (bit (getD (v .faults) a 0) (v .own .high)) (base v a + 1) l a t last
 
 -- The first n combinations in rising order: each that shows the row of claim l was looked at, and each other passed over. So the store that is left does
 -- not hang on how the next combination is found.
 pub data Visited (g : Grid) (l : ℕ) (s : Store) (tail : ℕ) : ℕ → Store → ℕ → Type 0 where
   begin : Visited g l s tail 0 s tail
-  look : {n : ℕ} {t : Store} {mid : ℕ} {u : Store} {last : ℕ} → Visited g l s tail n t mid → At g l n → Looked (aimOf g l) t mid l n u last → Visited g l s tail (n + 1) u last
-  pass : {n : ℕ} {t : Store} {last : ℕ} → Visited g l s tail n t last → (At g l n → ⊥) → Visited g l s tail (n + 1) t last
+  look : {n : ℕ} {t : Store} {mid : ℕ} {u : Store} {last : ℕ} → Visited g l s tail n t mid → ShowsRow g l n → Looked (aimOf g l) t mid l n u last → Visited g l s tail (n + 1) u last
+  pass : {n : ℕ} {t : Store} {last : ℕ} → Visited g l s tail n t last → (ShowsRow g l n → ⊥) → Visited g l s tail (n + 1) t last
 
 -- what `looks` asks and promises: one marked claim l and every combination
 pub record Asks (g : Grid) (s : Store) (tail l : ℕ) : Type 0 where

@@ -17,7 +17,7 @@ ghost use mathlib.Core.List.{_++_};
 ghost use lib.ListN.{length, drop, replicate};
 ghost use Rattle.board.specs.Board.{opposite as opp};
 ghost use Rattle.grid.specs.Grid.{grid, bit};
-ghost use Rattle.spread.specs.Steps.{aim, Sided};
+ghost use Rattle.spread.specs.Steps.{sideOf, aim};
 ghost use Rattle.spread.specs.Reach.{store, Offered, Offers, Known, Looks, Looked, Asks, Swept, Starts, Spread};
 ghost use Rattle.spread.specs.Walk.{Backs, Written};
 
@@ -72,7 +72,7 @@ struct Side {
 }
 
 fn side_of(shape: Shape, claim: Claim) -> Side
-    ensures { λ r. ⌜ Sided shape (claim .0) (r .seen) (r .row) (r .first) (r .low) (r .high) ⌝ }
+    ensures { λ r. ⌜ r ≡ sideOf shape (claim .0) ⌝ }
 {
     let n = claim.0;
     let l = n as usize;
@@ -120,8 +120,8 @@ fn look(
     by: &mut [u16],
     tail: usize,
 ) -> usize
-    requires { ⌜ Looks (aim (now faults) (now other) (own .first) (own .low) (own .high)) (store (now reached) (now queue) (now from) (now by)) tail (claim .0) (combination .0) ⌝ }
-    ensures { λ r. ⌜ Looked (aim (now (faults .entry)) (now (other .entry)) (own .first) (own .low) (own .high)) (store (now (reached .entry)) (now (queue .entry)) (now (from .entry)) (now (by .entry))) tail (claim .0) (combination .0) (store (now (reached .exit)) (now (queue .exit)) (now (from .exit)) (now (by .exit))) r ⌝ }
+    requires { ⌜ Looks (aim (now faults) (now other) own) (store (now reached) (now queue) (now from) (now by)) tail (claim .0) (combination .0) ⌝ }
+    ensures { λ r. ⌜ Looked (aim (now (faults .entry)) (now (other .entry)) own) (store (now (reached .entry)) (now (queue .entry)) (now (from .entry)) (now (by .entry))) tail (claim .0) (combination .0) (store (now (reached .exit)) (now (queue .exit)) (now (from .exit)) (now (by .exit))) r ⌝ }
 {
     let n = combination.0;
     let a = n as usize;

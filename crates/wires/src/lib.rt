@@ -4,7 +4,8 @@
 ghost use mathlib.Core.Path.{_≡_};
 ghost use mathlib.Core.Bool.{true};
 ghost use mathlib.Core.Logic.{_↔_};
-ghost use Prim.Native.Nat.{ℕ, _+_, _-_, _^_, _<_, _≤_};
+ghost use Prim.Native.Nat.{ℕ, _+_, _-_, _%_, _^_, _<_, _≤_};
+ghost use lib.Bits.{bitAnd};
 ghost use lib.Count.{ones};
 ghost use lib.ListN.{length, take};
 ghost use Rattle.wires.specs.Wires.{shown, placed};
@@ -58,9 +59,11 @@ pub fn row_placed(seen: u32, row: u32) -> u32
     a
 }
 
-// The next of the parts of the set `unseen`, in rising order, after `part`; after the last comes 0 again.
+// The next of the parts of the set `unseen`, in rising order, after `part`; after the last comes 0 again. Of a number that is no
+// part of the set it is what the wrapping subtraction and the mask leave.
 pub fn next_part(part: u32, unseen: u32) -> u32
-    ensures { λ r. ⌜ ((n k : ℕ) → n ≤ 32 → unseen < 2 ^ n → part ≡ placed n unseen k → r ≡ placed n unseen (k + 1)) ⌝ }
+    ensures next { λ r. ⌜ ((n k : ℕ) → n ≤ 32 → unseen < 2 ^ n → part ≡ placed n unseen k → r ≡ placed n unseen (k + 1)) ⌝ }
+    ensures left { λ r. ⌜ r ≡ bitAnd ((part + 2 ^ 32 - unseen) % 2 ^ 32) unseen ⌝ }
 {
     std::num::wrapping_sub_u32(part, unseen) & unseen
 }

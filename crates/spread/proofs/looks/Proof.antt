@@ -11,7 +11,7 @@ use Rattle.wires.specs.Wires.{placed}
 use Rattle.grid.specs.Grid.{Grid, grid}
 use Rattle.spread.specs.Reach.{store}
 use Rattle.spread.proofs.Sizes.{few-combinations}
-use Rattle.spread.proofs.Aims.{side-a, side-b}
+use Rattle.spread.proofs.Aims.{to-a, to-b}
 use Rattle.spread.proofs.Scan.{Scan, left, own, scan-start, scan-within, scan-ask, scan-turn, scan-less, scan-done, scan-as}
 use Rattle.spread.proofs.looks.Statement.{statement}
 use Rattle.spread.proofs.looks.Tie as tie
@@ -61,13 +61,13 @@ look-requires : tie.Need-look-requires Inv-loop μ-loop
 look-requires c κs =
     let at-loop = c .before .before .before .before .before .before .before .before in
     let at-start = start at-loop in
-    scan-ask (at-start .pre) (at-loop .loop .inv) (c .before .before .before .before .before .before .before .loop-test .taken) (side-a (board at-start) (at-start .args .claim .0) (at-loop .before .before .before .before .side-of .ensures) (at-start .pre .sound) (c .before .before .before .before .if1 .taken))
+    scan-ask (at-start .pre) (at-loop .loop .inv) (c .before .before .before .before .before .before .before .loop-test .taken) (to-b (board at-start) (at-start .args .claim .0) (at-loop .before .before .before .before .side-of .ensures) (at-start .pre .sound) (c .before .before .before .before .if1 .taken))
 
 look-requires-2 : tie.Need-look-requires-2 Inv-loop μ-loop
 look-requires-2 c κs =
     let at-loop = c .before .before .before .before .before .before .before .before in
     let at-start = start at-loop in
-    scan-ask (at-start .pre) (at-loop .loop .inv) (c .before .before .before .before .before .before .before .loop-test .taken) (side-b (board at-start) (at-start .args .claim .0) (at-loop .before .before .before .before .side-of .ensures) (c .before .before .before .before .if1 .left))
+    scan-ask (at-start .pre) (at-loop .loop .inv) (c .before .before .before .before .before .before .before .loop-test .taken) (to-a (board at-start) (at-start .args .claim .0) (at-loop .before .before .before .before .side-of .ensures) (c .before .before .before .before .if1 .left))
 
 next-part-requires : tie.Need-next-part-requires Inv-loop μ-loop
 next-part-requires c κs = search needs
@@ -77,7 +77,7 @@ next-is c =
     let at-loop = c .before .before .before .before .before in
     let q = start at-loop .pre in
     let w = at-loop .loop .inv in
-    c .next-part .ensures _ _ (omega (arith, q .sound .sizes .few)) (omega (arith, w .rest, q .sound .sizes .combinations)) (w .at)
+    c .next-part .ensures .0 _ _ (omega (arith, q .sound .sizes .few)) (omega (arith, w .rest, q .sound .sizes .combinations)) (w .at)
 
 loop-less : tie.Need-loop-less Inv-loop μ-loop
 loop-less c =
@@ -95,8 +95,8 @@ loop-again c =
     let d = at-loop .before .before .before .before .side-of .ensures in
     let m = c .before .before .before .before .loop-test .taken in
     ⊎-elim
-    (λ b. scan-as (record { reached = b .14; queue = b .15; from = b .16; by = b .17; end = b .18 }) (scan-turn q w m (next-is c) (λ h. eqb-false _ _ (not-true _ h)) (λ h. eqb-true _ _ (not-false _ h)) (side-a (board at-start) (at-start .args .claim .0) d (q .sound) (b .0 .taken)) (b .5 .ensures)))
-    (λ b. scan-as (record { reached = b .14; queue = b .15; from = b .16; by = b .17; end = b .18 }) (scan-turn q w m (next-is c) (λ h. eqb-false _ _ (not-true _ h)) (λ h. eqb-true _ _ (not-false _ h)) (side-b (board at-start) (at-start .args .claim .0) d (b .0 .left)) (b .5 .ensures)))
+    (λ b. scan-as (record { reached = b .14; queue = b .15; from = b .16; by = b .17; end = b .18 }) (scan-turn q w m (next-is c) (λ h. eqb-false _ _ (not-true _ h)) (λ h. eqb-true _ _ (not-false _ h)) (to-b (board at-start) (at-start .args .claim .0) d (q .sound) (b .0 .taken)) (b .5 .ensures)))
+    (λ b. scan-as (record { reached = b .14; queue = b .15; from = b .16; by = b .17; end = b .18 }) (scan-turn q w m (next-is c) (λ h. eqb-false _ _ (not-true _ h)) (λ h. eqb-true _ _ (not-false _ h)) (to-a (board at-start) (at-start .args .claim .0) d (b .0 .left)) (b .5 .ensures)))
     (c .before .if1 .came)
 
 same-length : tie.Need-same-length Inv-loop μ-loop
