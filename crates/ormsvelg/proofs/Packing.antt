@@ -54,7 +54,7 @@ use Rattle.answer.specs.Written.{two, tablesSheet, walkSheet}
 use Rattle.answer.proofs.Sheets.{tables-length, walk-length}
 use Rattle.solver.specs.Solved.{SolvedOn, Solved, refused, noRoom, solved}
 use Rattle.solver.specs.Solved.{tables as tabled, walk as walked}
-use Rattle.widener.specs.Asks.{asksb}
+use Rattle.asking.specs.Asks.{asksb}
 use Rattle.widener.specs.Table.{narrowRow, widenTable, widenSheet}
 use Rattle.widener.specs.Widened.{fitting, judged, withP, withNone, widened}
 use Rattle.widener.proofs.Tabling.{tabled-length}

@@ -13,7 +13,7 @@ use Rattle.answer.specs.Written.{fours}
 use Rattle.board.specs.Tests.{allBelow, firstFrom, amongb, fitsb, fromAb, fromBb, stepb, goesb, standsb}
 use Rattle.board.specs.JobBoard.{anyBelow, holdsb, breaksb, brokenRule, excusesb, excusedb}
 use Rattle.board.specs.Check.{judgeTables, judgeWalk, judgeSheet, checkOutcome}
-use Rattle.widener.specs.Asks.{samePins, allWithin, asksb}
+use Rattle.asking.specs.Asks.{samePins, allWithin, asksb}
 use Rattle.widener.specs.Table.{tabled}
 use Rattle.shown.specs.Papers.{papers}
 use Rattle.shown.proofs.Tests.{sameb, noneb, leastb, passes, every}

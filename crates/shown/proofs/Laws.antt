@@ -35,7 +35,7 @@ use Rattle.board.proofs.Checked.{joined-tables}
 use Rattle.solver.specs.Solved.{Wrote, Solved}
 use Rattle.solver.specs.Solved as solver
 use Rattle.solver.proofs.Demand.{tables-iff, walk-stands, SameEnding, same-ending}
-use Rattle.widener.specs.Asks.{asksb}
+use Rattle.asking.specs.Asks.{asksb}
 use Rattle.widener.specs.Table.{widenSheet}
 use Rattle.widener.specs.Widened.{judged, withP, withNone, widened}
 use Rattle.shown.specs.Cases.{Case, solves, walks, stands, judges, widens, OnBoard, Solves, Walks, Holds}

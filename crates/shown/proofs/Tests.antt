@@ -23,7 +23,7 @@ use Rattle.board.specs.Board.{Board, rows}
 use Rattle.board.specs.Tests.{fitsb, standsb}
 use Rattle.board.specs.JobBoard.{jobBoard}
 use Rattle.board.specs.Check.{judgeTables, checkOutcome}
-use Rattle.widener.specs.Asks.{asksb}
+use Rattle.asking.specs.Asks.{asksb}
 use Rattle.widener.specs.Table.{widenSheet}
 use Rattle.shown.specs.Cases.{Case, solves, walks, stands, judges, widens}
 

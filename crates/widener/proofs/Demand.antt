@@ -43,7 +43,7 @@ use Rattle.theory.specs.Widen as theory
 use Rattle.theory.proofs.Widen.{widened-pair}
 use Rattle.solver.specs.Solved.{Solved}
 use Rattle.solver.proofs.Demand.{tables-iff, walk-stands}
-use Rattle.widener.specs.Asks.{AsksNoMore}
+use Rattle.asking.specs.Asks.{AsksNoMore}
 use Rattle.widener.specs.Table.{narrowRow, tabled, widenTable, widenSheet}
 use Rattle.widener.proofs.Tabling.{tabled-length, tabled-at}
 

@@ -35,13 +35,14 @@ use Rattle.board.specs.Places.{TablesIn}
 use Rattle.board.proofs.Accepting.{Taken}
 use Rattle.board.proofs.Judging.{tables-in}
 use Rattle.board.proofs.Codes.{tables-not, walk-not}
-use Rattle.widener.specs.Asks.{samePins, asksb}
+use Rattle.asking.specs.Asks.{samePins, asksb}
+use Rattle.asking.specs.Taking.{TakenAs}
+use Rattle.asking.proofs.Within.{pins-length}
 use Rattle.widener.specs.Table.{narrowRow, widenTable, widenSheet}
 use Rattle.sheet.specs.JobFound.{jobHead}
-use Rattle.widener.specs.Taking.{TakenAs, Wide, Widely, sheetFrom}
+use Rattle.widener.specs.Writing.{Wide, Widely, sheetFrom}
 use Rattle.widener.specs.Widened.{fitting, judged, withBoth, withP, widened}
 use Rattle.widener.proofs.Tabling.{tabled-same}
-use Rattle.widener.proofs.Within.{pins-length}
 
 -- ---- jobs
 

@@ -1,6 +1,3 @@
-pub mod Within
-pub mod Asking
-pub mod Asked
 pub mod Tabling
 pub mod Writing
 pub mod Ends

@@ -25,7 +25,7 @@ use Rattle.answer.specs.AnswerSheet.{longest}
 use Rattle.board.specs.JobBoard.{jobBoard}
 use Rattle.board.specs.Check.{judgeTables, judgeWalk, judge, judgeSheet, afterJob, checkOutcome}
 use Rattle.board.proofs.Codes.{verdictFor, walk-not, judge-rule}
-use Rattle.widener.specs.Asks.{asksb}
+use Rattle.asking.specs.Asks.{asksb}
 use Rattle.widener.specs.Table.{widenSheet}
 use Rattle.widener.specs.Widened.{fitting, judged, withP, withNone, widened}
 

@@ -14,7 +14,7 @@ use Rattle.answer.specs.Written.{two, table, tablesSheet}
 use Rattle.steps.proofs.Runs.{joined}
 use Rattle.answer.proofs.Sheets.{tables-length}
 use Rattle.solver.proofs.Writing.{wrote}
-use Rattle.widener.specs.Taking.{Widens, Wide, Widely, rowsFrom, sheetFrom}
+use Rattle.widener.specs.Writing.{Widens, Wide, Widely, rowsFrom, sheetFrom}
 use Rattle.widener.proofs.Tabling.{few-rows, tabled-length}
 
 module _ (hp hq : JobHead) (s l : List ℕ) (w : Wide hp hq s l) where

@@ -1,4 +1,3 @@
-pub mod Asks
 pub mod Table
 pub mod Widened
-pub mod Taking
+pub mod Writing

@@ -15,7 +15,7 @@ use Rattle.answer.specs.Answer.{rejected as unanswered}
 use Rattle.answer.specs.AnswerSheet.{readAnswer, longest}
 use Rattle.board.specs.JobBoard.{jobBoard}
 use Rattle.board.specs.Check.{judgeTables, judgeWalk}
-use Rattle.widener.specs.Asks.{asksb}
+use Rattle.asking.specs.Asks.{asksb}
 use Rattle.widener.specs.Table.{widenSheet}
 
 -- tables that fit P. 14: Q does not ask no more than P (sheet 3). 6: buffer under 8,190 bytes (sheet 0)

@@ -1,4 +1,4 @@
--- `widener::same_pins` meets its contract. Invariant: all pins are equal exactly where those from i on are. The measure is the pins left.
+-- `asking::same_pins` meets its contract. Invariant: all pins are equal exactly where those from i on are. The measure is the pins left.
 -- Assumes nothing.
 use mathlib.Core.Path.{_≡_, refl, sym, _∙_}
 use mathlib.Core.Bool.{true, false}
@@ -7,10 +7,10 @@ use Prim.Native.Nat.{ℕ, _+_, _-_, _<_, _≤_}
 use native.Mathlib.Omega.{arith}
 use borrow.Author.Needs.{needs}
 use lib.ListN.{length, getD}
-use Rattle.widener.specs.Asks.{samePins}
-use Rattle.widener.proofs.Within.{pinsFrom, pins-turn, pins-differ, pins-end}
-use Rattle.widener.proofs.same_pins.Statement.{statement}
-use Rattle.widener.proofs.same_pins.Tie as tie
+use Rattle.asking.specs.Asks.{samePins}
+use Rattle.asking.proofs.Within.{pinsFrom, pins-turn, pins-differ, pins-end}
+use Rattle.asking.proofs.same_pins.Statement.{statement}
+use Rattle.asking.proofs.same_pins.Tie as tie
 
 record Inv (p q : List ℕ) (n i : ℕ) : Type 0 where
   within : i ≤ n

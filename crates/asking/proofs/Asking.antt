@@ -14,7 +14,7 @@ use Rattle.wires.specs.Terms.{containsb, someWithin}
 use Rattle.wires.proofs.Sets.{contains-iff, Within, some-to, some-from}
 use Rattle.sheet.specs.Job.{Job}
 use Rattle.board.proofs.Tests.{and-both}
-use Rattle.widener.specs.Asks.{AsksNoMore, samePins, allWithin, asksb}
+use Rattle.asking.specs.Asks.{AsksNoMore, samePins, allWithin, asksb}
 
 -- ---- pins
 

@@ -16,10 +16,10 @@ use Rattle.sheet.specs.Job.{Job}
 use Rattle.sheet.proofs.Laws.{pins-stay}
 use Rattle.sheet.proofs.Forms.{five-bytes}
 use Rattle.wires.specs.Terms.{containsb}
-use Rattle.widener.specs.Asks.{samePins, allWithin, asksb}
+use Rattle.asking.specs.Asks.{samePins, allWithin, asksb}
 use Rattle.board.proofs.Rules.{behind, behind-is}
-use Rattle.widener.specs.Taking.{TakenAs}
-use Rattle.widener.proofs.Within.{pins-length}
+use Rattle.asking.specs.Taking.{TakenAs}
+use Rattle.asking.proofs.Within.{pins-length}
 
 pub pins-in : (s : List ℕ) (h : JobHead) (masks : List ℕ) (j : Job) (n : ℕ) → TakenAs s h masks j → n ≡ h .wires → 1 + n ≤ length s
 pins-in s h masks j n t e =

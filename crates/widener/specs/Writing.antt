@@ -1,5 +1,4 @@
--- What the widener's parts ask and leave: two jobs that were read, and tables that are written piece by piece.
---     TakenAs, IsTaken      a job sheet was accepted, and its numbers, rules and excuses are those found
+-- What the widener's parts ask and leave: tables that are written piece by piece.
 --     Widens        what `widen_table` asks
 --     Wide, Widely  what `write_wide` asks and leaves
 -- Assumes nothing: these are definitions.
@@ -7,28 +6,12 @@ use mathlib.Core.Path.{_≡_}
 use mathlib.Core.List.{List, _++_}
 use Prim.Native.Nat.{ℕ, _+_, _^_, _<_, _≤_}
 use lib.Count.{ones}
-use lib.ListN.{length, getD, take, drop}
-use Rattle.sheet.specs.declared.Form.{Form}
+use lib.ListN.{length, getD, drop}
 use Rattle.sheet.specs.declared.JobHead.{JobHead}
-use Rattle.sheet.specs.Job.{Job, accepted}
-use Rattle.sheet.specs.JobSheet.{readJob}
-use Rattle.sheet.specs.JobFound.{jobHead}
 use Rattle.answer.specs.AnswerSheet.{longest}
 use Rattle.answer.specs.Written.{tablesSheet}
-use Rattle.board.specs.JobBoard.{Sized}
 use Rattle.board.specs.Places.{TablesIn}
 use Rattle.widener.specs.Table.{narrowRow, tabled}
-
-pub record TakenAs (s : List ℕ) (h : JobHead) (masks : List ℕ) (j : Job) : Type 0 where
-  pub form : Form
-  pub is : readJob form s ≡ accepted j
-  pub head : h ≡ jobHead j
-  pub sized : Sized h masks
-  pub rules-are : take (h .rules) masks ≡ j .rules
-  pub excuses-are : take (h .excuses) (drop (h .rules) masks) ≡ j .excuses
-
-abbrev pub IsTaken : (s : List ℕ) (h : JobHead) (masks : List ℕ) → Type 0
-IsTaken s h masks = (j : Job) × TakenAs s h masks j
 
 -- the table of a cell that sees the wires of `few` stands in s from the place `first` on, and there is room for that of a cell that sees those of `more`
 pub record Widens (few more : ℕ) (s : List ℕ) (first : ℕ) (out : List ℕ) (at : ℕ) : Type 0 where

@@ -14,7 +14,7 @@ use lib.Seq.{getD-drop}
 use borrow.Author.Tests.{eq-eqb, ne-eqb}
 use Rattle.wires.specs.Terms.{someWithin}
 use Rattle.wires.proofs.Sets.{from-here, none-left}
-use Rattle.widener.specs.Asks.{samePins, allWithin}
+use Rattle.asking.specs.Asks.{samePins, allWithin}
 
 -- ---- pins, which stand in a sheet from place 1 on
 

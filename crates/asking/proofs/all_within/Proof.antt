@@ -1,4 +1,4 @@
--- `widener::all_within` meets its contract. Invariant: each set contains one of the others exactly where each of those from i on does. The measure
+-- `asking::all_within` meets its contract. Invariant: each set contains one of the others exactly where each of those from i on does. The measure
 -- is the sets left. Assumes nothing.
 use mathlib.Core.Path.{_≡_, refl, sym, _∙_}
 use mathlib.Core.Bool.{Bool, true, false, not}
@@ -9,10 +9,10 @@ use borrow.Author.Needs.{needs}
 use borrow.Author.Tests.{not-true, not-false}
 use lib.ListN.{length, getD, take, drop}
 use Rattle.wires.specs.Terms.{someWithin}
-use Rattle.widener.specs.Asks.{allWithin}
-use Rattle.widener.proofs.Within.{all-turn, all-missed, all-end}
-use Rattle.widener.proofs.all_within.Statement.{statement}
-use Rattle.widener.proofs.all_within.Tie as tie
+use Rattle.asking.specs.Asks.{allWithin}
+use Rattle.asking.proofs.Within.{all-turn, all-missed, all-end}
+use Rattle.asking.proofs.all_within.Statement.{statement}
+use Rattle.asking.proofs.all_within.Tie as tie
 
 record Inv (ps sets : List ℕ) (count i : ℕ) : Type 0 where
   within : i ≤ count

@@ -1,12 +1,12 @@
--- `widener::asks_no_more` meets its contract: the answer is the test of the two jobs, part by part.
+-- `asking::asks_no_more` meets its contract: the answer is the test of the two jobs, part by part.
 -- Assumes nothing.
 use mathlib.Core.Path.{refl}
 use native.Mathlib.Omega.{arith}
 use borrow.Author.Needs.{needs}
 use Rattle.board.proofs.Rules.{excuses-there}
-use Rattle.widener.proofs.Asked.{pins-in, rules-in, other-wires, other-pins, unseen-a, unseen-b, more-rules, asks-rest}
-use Rattle.widener.proofs.asks_no_more.Statement.{statement}
-use Rattle.widener.proofs.asks_no_more.Tie as tie
+use Rattle.asking.proofs.Asked.{pins-in, rules-in, other-wires, other-pins, unseen-a, unseen-b, more-rules, asks-rest}
+use Rattle.asking.proofs.asks_no_more.Statement.{statement}
+use Rattle.asking.proofs.asks_no_more.Tie as tie
 
 returns : tie.Need-returns
 returns c = λ P Q tp tq. other-wires _ _ _ _ _ _ P Q tp tq (c .if1 .taken)

@@ -1,0 +1,3 @@
+pub mod Within
+pub mod Asking
+pub mod Asked
