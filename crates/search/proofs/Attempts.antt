@@ -16,9 +16,10 @@ use Rattle.board.proofs.Claims.{claim-row}
 use Rattle.theory.specs.Solve.{Spread as BoardSpread, Settling}
 use Rattle.theory.proofs.Merge.{merge-settles}
 use Rattle.grid.specs.Grid.{Grid, claims, gridBoard}
-use Rattle.spread.specs.Reach.{Store, mark, marked, Starts, Spread}
+use Rattle.scan.specs.Reach.{Store, mark, marked}
+use Rattle.scan.proofs.Sizes.{shows}
+use Rattle.spread.specs.Spread.{Starts, Spread}
 use Rattle.spread.specs.Walk.{Backs, Written, HalfWalk}
-use Rattle.spread.proofs.Sizes.{shows}
 use Rattle.spread.proofs.Meaning.{spread-is, unmarked-good, mark-one, half-backs, half-walk}
 use Rattle.search.specs.Merge.{MergedBy}
 use Rattle.search.specs.Settle.{Attempts, Attempted}

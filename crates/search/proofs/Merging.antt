@@ -19,7 +19,7 @@ use Rattle.board.specs.Tables.{held, True}
 use Rattle.board.proofs.Claims.{claim-cases, opposite-zero}
 use Rattle.theory.specs.Solve.{Good, Merged}
 use Rattle.grid.specs.Grid.{Grid, claims, gridBoard}
-use Rattle.spread.specs.Reach.{Store, mark, marked}
+use Rattle.scan.specs.Reach.{Store, mark, marked}
 use Rattle.search.specs.Merge.{settled, MergedBy}
 
 pub picks-0 : (x y z : ℕ) → x ≡ 1 → 0 ≡ settled x y z

@@ -26,8 +26,8 @@ use Rattle.theory.proofs.Merge.{skip, blank-settling}
 use Rattle.theory.proofs.First.{settled-first}
 use Rattle.theory.proofs.Reach.{reach-cast}
 use Rattle.grid.specs.Grid.{Grid, gridBoard}
-use Rattle.spread.specs.Reach.{Store, Room, Same}
-use Rattle.spread.proofs.Sizes.{shows}
+use Rattle.scan.specs.Reach.{Store, Room, Same}
+use Rattle.scan.proofs.Sizes.{shows}
 use Rattle.search.specs.Settle.{Trying, Attempts, Attempted, Settles, WalkWritten, Settled, Searches, Searched}
 use Rattle.search.proofs.Halves.{half-reaches, halves-written}
 

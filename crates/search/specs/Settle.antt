@@ -16,7 +16,7 @@ use Rattle.board.specs.Tables.{held, First}
 use Rattle.board.specs.Walk.{Stands, Reaches}
 use Rattle.theory.specs.Solve.{Settling}
 use Rattle.grid.specs.Grid.{Grid, claims, Sound, gridBoard}
-use Rattle.spread.specs.Reach.{Store, Room}
+use Rattle.scan.specs.Reach.{Store, Room}
 use Rattle.spread.specs.Walk.{HalfWalk}
 
 -- row r is next, is not settled, and is tried with bit v; with 1 only where its 0 claim reaches its 1 claim

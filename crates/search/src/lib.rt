@@ -11,7 +11,7 @@ ghost use mathlib.Core.Path.{_≡_};
 ghost use Prim.Native.Nat.{_*_, _≤_};
 ghost use lib.ListN.{length};
 ghost use Rattle.grid.specs.Grid.{grid};
-ghost use Rattle.spread.specs.Reach.{store};
+ghost use Rattle.scan.specs.Reach.{store};
 ghost use Rattle.search.specs.Merge.{settled, MergedBy};
 ghost use Rattle.search.specs.Settle.{Attempts, Attempted, Settles, Settled, Searches, Searched};
 

@@ -11,10 +11,11 @@ use borrow.Author.Fill.{fill-more}
 use lib.ListN.{length, getD, set, drop, replicate, length-set, length-replicate, getD-replicate, List·getD-append}
 use lib.Seq.{getD-set-same, getD-set-other}
 use Rattle.grid.specs.Grid.{Grid, claims, Sound}
-use Rattle.spread.specs.Steps.{Step}
-use Rattle.spread.specs.Reach.{Store, store, mark, entry, marks, Room, Placed, Reach, Same, Asks, Swept, Closed, Spread}
-use Rattle.spread.proofs.Marks.{marks-add, marks-none}
-use Rattle.spread.proofs.Laws.{tail-le, same-trans}
+use Rattle.scan.specs.Steps.{Step}
+use Rattle.scan.specs.Reach.{Store, store, mark, entry, marks, Room, Placed, Reach, Same, Asks, Swept}
+use Rattle.scan.proofs.Marks.{marks-add, marks-none}
+use Rattle.scan.proofs.Laws.{tail-le, same-trans}
+use Rattle.spread.specs.Spread.{Closed, Spread}
 
 pub record Front (g : Grid) (start : ℕ) (s t : Store) (tail head : ℕ) : Type 0 where
   pub same : Same s t

@@ -28,12 +28,13 @@ use Rattle.theory.specs.Solve.{Spread as BoardSpread, Good}
 use Rattle.theory.proofs.Reach.{reach-refl, reach-step, reach-trans, reach-cast}
 use Rattle.theory.proofs.Spreads.{spread-has, good-or-clash}
 use Rattle.grid.specs.Grid.{Grid, claims, fault, bit, Sound, gridBoard}
-use Rattle.spread.specs.Steps.{Step}
-use Rattle.spread.specs.Steps.Step.{a-to-b, b-to-a}
-use Rattle.spread.specs.Reach.{Store, mark, entry, marked, Placed, Parent, Spread}
+use Rattle.scan.specs.Steps.{Step}
+use Rattle.scan.specs.Steps.Step.{a-to-b, b-to-a}
+use Rattle.scan.specs.Reach.{Store, mark, entry, marked, Placed, Parent}
+use Rattle.scan.proofs.Sizes.{shows}
+use Rattle.spread.specs.Spread.{Spread}
 use Rattle.spread.specs.Walk.{Chain, Backs, Written, HalfWalk}
 use Rattle.spread.specs.Walk.Chain.{here, edge}
-use Rattle.spread.proofs.Sizes.{shows}
 
 -- ---- steps
 

@@ -1,3 +1,2 @@
-pub mod Steps
-pub mod Reach
+pub mod Spread
 pub mod Walk

@@ -4,7 +4,7 @@ use mathlib.Core.Path.{sym, _∙_}
 use Prim.Native.Nat.{_-_}
 use native.Mathlib.Omega.{arith}
 use Rattle.grid.specs.Grid.{grid}
-use Rattle.spread.specs.Reach.{store}
+use Rattle.scan.specs.Reach.{store}
 use Rattle.search.proofs.Turns.{Searching, search-starts, search-asks, search-turns, search-fails, search-ends}
 use borrow.Author.Needs.{needs}
 use Rattle.search.proofs.search.Statement.{statement}

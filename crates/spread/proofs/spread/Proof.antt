@@ -6,7 +6,7 @@ use mathlib.Core.Path.{_∙_}
 use lib.ListN.{length-set}
 use borrow.Author.Needs.{needs}
 use Rattle.grid.specs.Grid.{grid}
-use Rattle.spread.specs.Reach.{store}
+use Rattle.scan.specs.Reach.{store}
 use Rattle.spread.proofs.Front.{Front, front-start, front-ask, front-turn, front-below, front-done}
 use Rattle.spread.proofs.spread.Statement.{statement}
 use Rattle.spread.proofs.spread.Tie as tie

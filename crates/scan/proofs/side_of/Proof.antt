@@ -1,10 +1,10 @@
--- `spread::side_of` meets its contract: each return is the side of one of the two cells. Assumes nothing.
+-- `scan::side_of` meets its contract: each return is the side of one of the two cells. Assumes nothing.
 use mathlib.Core.Path.{sym}
 use native.Mathlib.Omega.{arith}
 use borrow.Author.Needs.{needs}
-use Rattle.spread.proofs.Aims.{of-a, of-b}
-use Rattle.spread.proofs.side_of.Statement.{statement}
-use Rattle.spread.proofs.side_of.Tie as tie
+use Rattle.scan.proofs.Aims.{of-a, of-b}
+use Rattle.scan.proofs.side_of.Statement.{statement}
+use Rattle.scan.proofs.side_of.Tie as tie
 
 cast-l : tie.Need-cast-l
 cast-l c = search needs

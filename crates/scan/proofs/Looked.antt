@@ -5,10 +5,10 @@ use mathlib.Core.Path.{_≡_, _∙_}
 use mathlib.Core.Logic.{⊎-elim}
 use native.Mathlib.Omega.{arith}
 use Rattle.grid.specs.Grid.{Grid, claims, fault, bit, Sound}
-use Rattle.spread.specs.Steps.{ShowsRow, aimOf, base}
-use Rattle.spread.specs.Reach.{Store, mark, Placed, Reach, Grown, Found, Offered, Looks, Looked}
-use Rattle.spread.proofs.Aims.{Aims, aims, aim-faults, aim-long, shown-below}
-use Rattle.spread.proofs.Laws.{offers, offered, offered-mark, grown-trans}
+use Rattle.scan.specs.Steps.{ShowsRow, aimOf, base}
+use Rattle.scan.specs.Reach.{Store, mark, Placed, Reach, Grown, Found, Offered, Looks, Looked}
+use Rattle.scan.proofs.Aims.{Aims, aims, aim-faults, aim-long, shown-below}
+use Rattle.scan.proofs.Laws.{offers, offered, offered-mark, grown-trans}
 
 -- one marked claim l and one combination a that shows its row
 pub record Turn (g : Grid) (s : Store) (tail l a : ℕ) : Type 0 where

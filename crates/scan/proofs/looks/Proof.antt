@@ -1,4 +1,4 @@
--- `spread::looks` meets its contract. The invariant of its loop is `Scan`: the combinations that show the row, up to the part at hand, have been looked at.
+-- `scan::looks` meets its contract. The invariant of its loop is `Scan`: the combinations that show the row, up to the part at hand, have been looked at.
 -- The measure is how many parts are left.
 -- Assumes nothing.
 use native.Mathlib.Omega.{arith}
@@ -9,12 +9,12 @@ use borrow.Author.Needs.{needs}
 use borrow.Author.Tests.{eqb-true, eqb-false, not-true, not-false}
 use Rattle.wires.specs.Wires.{placed}
 use Rattle.grid.specs.Grid.{Grid, grid}
-use Rattle.spread.specs.Reach.{store}
-use Rattle.spread.proofs.Sizes.{few-combinations}
-use Rattle.spread.proofs.Aims.{to-a, to-b}
-use Rattle.spread.proofs.Scan.{Scan, left, own, scan-start, scan-within, scan-ask, scan-turn, scan-less, scan-done, scan-as}
-use Rattle.spread.proofs.looks.Statement.{statement}
-use Rattle.spread.proofs.looks.Tie as tie
+use Rattle.scan.specs.Reach.{store}
+use Rattle.scan.proofs.Sizes.{few-combinations}
+use Rattle.scan.proofs.Aims.{to-a, to-b}
+use Rattle.scan.proofs.Scan.{Scan, left, own, scan-start, scan-within, scan-ask, scan-turn, scan-less, scan-done, scan-as}
+use Rattle.scan.proofs.looks.Statement.{statement}
+use Rattle.scan.proofs.looks.Tie as tie
 
 abbrev Inv-loop : tie.InvT-loop
 Inv-loop shape row-a row-b faults claim reached₀ queue₀ from₀ by₀ tail own unseen lowest last₀ part₀ more₀ reached queue from by last part more =

@@ -9,8 +9,8 @@ use lib.Pow.{shl-exact, shl-shr}
 use Rattle.wires.specs.Wires.{wire}
 use Rattle.wires.proofs.Digits.{wire-and, wire-or, wire-not, wire-zero}
 use Rattle.grid.specs.Grid.{bit}
-use Rattle.spread.specs.Steps.{Aim, base}
-use Rattle.spread.specs.Reach.{Store, mark, Known, Left, Looked}
+use Rattle.scan.specs.Steps.{Aim, base}
+use Rattle.scan.specs.Reach.{Store, mark, Known, Left, Looked}
 use lib.ListN.{getD}
 
 -- one less than a mark of 0 is a mask of all eight bits

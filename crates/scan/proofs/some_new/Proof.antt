@@ -1,10 +1,10 @@
--- `spread::some_new` meets its contract, by the laws of `proofs/New.antt`. Assumes nothing.
+-- `scan::some_new` meets its contract, by the laws of `proofs/New.antt`. Assumes nothing.
 use mathlib.Core.Path.{_∙_}
 use borrow.Author.Needs.{needs}
 use borrow.Author.Tests.{eqb-true, not-false}
-use Rattle.spread.proofs.New.{known-base, known-next}
-use Rattle.spread.proofs.some_new.Statement.{statement}
-use Rattle.spread.proofs.some_new.Tie as tie
+use Rattle.scan.proofs.New.{known-base, known-next}
+use Rattle.scan.proofs.some_new.Statement.{statement}
+use Rattle.scan.proofs.some_new.Tie as tie
 
 cast-to-base : tie.Need-cast-to-base
 cast-to-base c = search needs

@@ -13,7 +13,7 @@ use lib.Dec.{ltb}
 use lib.ListN.{getD}
 use Rattle.grid.specs.Grid.{Grid, shown-a, shown-b, fault, bit}
 use Rattle.grid.specs.declared.Shape.{Shape}
-use Rattle.spread.specs.declared.Side.{Side}
+use Rattle.scan.specs.declared.Side.{Side}
 
 -- combination a shows the row of claim l
 abbrev pub ShowsRow : Grid → ℕ → ℕ → Type 0

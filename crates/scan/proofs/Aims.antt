@@ -11,10 +11,10 @@ use lib.ListN.{length}
 use native.Mathlib.Omega.{arith}
 use Rattle.grid.specs.Grid.{Grid, claims, shown-a, shown-b, fault, Sound, bit}
 use Rattle.grid.specs.declared.Shape.{Shape}
-use Rattle.spread.specs.declared.Side.{Side}
-use Rattle.spread.specs.Steps.{ShowsRow, Step, Aim, aim, aimOf, base, side, sideOf}
-use Rattle.spread.specs.Steps.Step.{a-to-b, b-to-a}
-use Rattle.spread.proofs.Sizes.{in-a, in-b}
+use Rattle.scan.specs.declared.Side.{Side}
+use Rattle.scan.specs.Steps.{ShowsRow, Step, Aim, aim, aimOf, base, side, sideOf}
+use Rattle.scan.specs.Steps.Step.{a-to-b, b-to-a}
+use Rattle.scan.proofs.Sizes.{in-a, in-b}
 
 pub step-within : {g : Grid} {l m a : ℕ} → Step g l m a → a < g .shape .combinations
 step-within (a-to-b w l m f) = w

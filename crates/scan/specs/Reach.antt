@@ -1,4 +1,4 @@
--- What the spread keeps in the lent arrays, and what each function of the spread promises of it.
+-- What the spread keeps in the lent arrays, and what each function of the scan promises of it.
 --     Store      the four arrays: the marks, the queue, and each claim's parent claim and combination
 --     marks      the sum of the first n marks
 --     Reach      the invariant: the first `tail` queue entries are exactly the marked claims, each once, and each but the first has a parent that stands before it
@@ -6,7 +6,6 @@
 --     marked     which claims a store has marked
 --     Looked     one look: the two claims of the other cell's row are offered, each by its fault bit
 --     Visited    the scan of one claim: each combination that shows its row is looked at once, in rising order, and no other
---     Spread     every claim to which steps lead from the start is marked, and no other
 -- Assumes nothing: these are definitions.
 use Prim.Native.Nat.{ℕ, zero, suc, _+_, _<_, _≤_}
 use mathlib.Core.Path.{_≡_}
@@ -16,7 +15,7 @@ use mathlib.Core.List.{List}
 use lib.Dec.{eqb, ltb}
 use lib.ListN.{length, getD, set}
 use Rattle.grid.specs.Grid.{Grid, claims, bit, Sound}
-use Rattle.spread.specs.Steps.{ShowsRow, Step, Aim, aimOf, base}
+use Rattle.scan.specs.Steps.{ShowsRow, Step, Aim, aimOf, base}
 
 pub record Store : Type 0 where
   pub reached : List ℕ
@@ -155,20 +154,3 @@ pub record Swept (g : Grid) (s : Store) (tail l : ℕ) (t : Store) (last : ℕ) 
   pub visited : Visited g l s tail (g .shape .combinations) t last
   pub grown : Grown g s tail t last
   pub found : (a : ℕ) → Found g t l a
-
--- what `spread` asks and promises
-pub record Starts (g : Grid) (s : Store) (start : ℕ) : Type 0 where
-  pub sound : Sound g
-  pub room : Room g s
-  pub inside : start < claims g
-
--- no step leads from the first n queue entries to a claim that is not marked
-abbrev pub Closed : Grid → Store → ℕ → Type 0
-Closed g s n = (i : ℕ) → i < n → (m a : ℕ) → Step g (entry s i) m a → mark s m ≡ 1
-
-pub record Spread (g : Grid) (start : ℕ) (s : Store) (r : ℕ) : Type 0 where
-  pub some : 0 < r
-  pub few : r ≤ claims g
-  pub first : entry s 0 ≡ start
-  pub reach : Reach g s r
-  pub closed : Closed g s r

@@ -13,14 +13,14 @@ use Rattle.wires.specs.Wires.{shown, placed}
 use Rattle.wires.proofs.Rows.{row-below, shown-placed}
 use Rattle.wires.proofs.Parts.{parts-of, part-shows, part-below, part-rises, part-first, part-last}
 use Rattle.grid.specs.Grid.{Grid, claims, Sound}
-use Rattle.spread.specs.Steps.{ShowsRow, Aim, aimOf, sideOf}
-use Rattle.spread.specs.Reach.{Store, Left, Looks, Looked, Asks, Swept}
-use Rattle.spread.specs.declared.Side.{Side}
-use Rattle.spread.proofs.Sizes.{in-a}
-use Rattle.spread.proofs.Aims.{of-a, of-b}
-use Rattle.spread.proofs.Laws.{left-path}
-use Rattle.spread.proofs.Looked.{Turn, turn-asks}
-use Rattle.spread.proofs.Sweep.{Sweep, sweep-start, sweep-ask, sweep-look, sweep-to, sweep-done}
+use Rattle.scan.specs.Steps.{ShowsRow, Aim, aimOf, sideOf}
+use Rattle.scan.specs.Reach.{Store, Left, Looks, Looked, Asks, Swept}
+use Rattle.scan.specs.declared.Side.{Side}
+use Rattle.scan.proofs.Sizes.{in-a}
+use Rattle.scan.proofs.Aims.{of-a, of-b}
+use Rattle.scan.proofs.Laws.{left-path}
+use Rattle.scan.proofs.Looked.{Turn, turn-asks}
+use Rattle.scan.proofs.Sweep.{Sweep, sweep-start, sweep-ask, sweep-look, sweep-to, sweep-done}
 
 -- the row of a claim's own cell: a combination shows it exactly if it shows the claim's row
 pub record Own (g : Grid) (l seen row : ℕ) : Type 0 where

@@ -11,9 +11,9 @@ use borrow.Author.Count.{below-more}
 use lib.ListN.{length, getD, set, length-set}
 use lib.Seq.{getD-set-same, getD-set-other}
 use Rattle.grid.specs.Grid.{Grid, Sound, claims}
-use Rattle.spread.specs.Steps.{Step}
-use Rattle.spread.specs.Reach.{Store, mark, entry, marks, Room, Parent, Placed, Reach, Same, Grown, Added, Left, Offered, Offers}
-use Rattle.spread.proofs.Marks.{marks-add, marks-le, marks-lt}
+use Rattle.scan.specs.Steps.{Step}
+use Rattle.scan.specs.Reach.{Store, mark, entry, marks, Room, Parent, Placed, Reach, Same, Grown, Added, Left, Offered, Offers}
+use Rattle.scan.proofs.Marks.{marks-add, marks-le, marks-lt}
 
 pub tail-le : {g : Grid} {s : Store} {tail : ℕ} → Reach g s tail → tail ≤ claims g
 tail-le {g} {s} h = omega (arith, h .counted, marks-le (s .reached) (claims g) (h .flags))

@@ -6,12 +6,12 @@ use native.Mathlib.Nat.{add-zero}
 use native.Mathlib.Omega.{arith}
 use borrow.Author.Count.{below-more, below-none}
 use Rattle.grid.specs.Grid.{Grid}
-use Rattle.spread.specs.Steps.{ShowsRow, aimOf}
-use Rattle.spread.specs.Reach.{Store, Reach, Grown, Found, Looked, Visited, Asks, Swept}
-use Rattle.spread.specs.Reach.Visited.{begin, look, pass}
-use Rattle.spread.proofs.Aims.{step-within, step-shown}
-use Rattle.spread.proofs.Laws.{grown-refl, grown-trans}
-use Rattle.spread.proofs.Looked.{Turn, turn-grown, turn-found}
+use Rattle.scan.specs.Steps.{ShowsRow, aimOf}
+use Rattle.scan.specs.Reach.{Store, Reach, Grown, Found, Looked, Visited, Asks, Swept}
+use Rattle.scan.specs.Reach.Visited.{begin, look, pass}
+use Rattle.scan.proofs.Aims.{step-within, step-shown}
+use Rattle.scan.proofs.Laws.{grown-refl, grown-trans}
+use Rattle.scan.proofs.Looked.{Turn, turn-grown, turn-found}
 
 -- from the store s with its end at `tail`, the combinations before b that show the row have been looked at
 pub record Sweep (g : Grid) (s : Store) (tail l : ℕ) (t : Store) (last b : ℕ) : Type 0 where

@@ -1,9 +1,9 @@
--- `spread::bit_of` meets its contract, which is the code's own arithmetic. Assumes nothing.
+-- `scan::bit_of` meets its contract, which is the code's own arithmetic. Assumes nothing.
 use mathlib.Core.Path.{refl}
 use borrow.Author.Needs.{needs}
 use Rattle.grid.specs.Grid.{bit}
-use Rattle.spread.proofs.bit_of.Statement.{statement}
-use Rattle.spread.proofs.bit_of.Tie as tie
+use Rattle.scan.proofs.bit_of.Statement.{statement}
+use Rattle.scan.proofs.bit_of.Tie as tie
 
 cast-result : tie.Need-cast-result
 cast-result c = search needs
