@@ -28,7 +28,8 @@ use Rattle.theory.proofs.Reach.{reach-cast}
 use Rattle.grid.specs.Grid.{Grid, gridBoard}
 use Rattle.scan.specs.Reach.{Store, Room, Same}
 use Rattle.scan.proofs.Sizes.{shows}
-use Rattle.search.specs.Settle.{Trying, Attempts, Attempted, Settles, WalkWritten, Settled, Searches, Searched}
+use Rattle.attempt.specs.Attempt.{Trying, Attempts, Attempted}
+use Rattle.search.specs.Settle.{Settles, WalkWritten, Settled, Searches, Searched}
 use Rattle.search.proofs.Halves.{half-reaches, halves-written}
 
 -- the claims of row r, as they are counted

@@ -1,13 +1,13 @@
--- `search::merge` meets its contract. The invariant is `Done`: the rows below r are done, and the others are as they were. The measure is what is left of the rows.
+-- `attempt::merge` meets its contract. The invariant is `Done`: the rows below r are done, and the others are as they were. The measure is what is left of the rows.
 -- Assumes nothing.
 use Prim.Native.Nat.{_-_}
 use native.Mathlib.Omega.{arith}
 use borrow.Author.Needs.{needs}
 use lib.ListN.{length}
 use denote.Ref.{now}
-use Rattle.search.proofs.Merging.{Done, done-start, done-turn, done-end}
-use Rattle.search.proofs.merge.Statement.{statement}
-use Rattle.search.proofs.merge.Tie as tie
+use Rattle.attempt.proofs.Merging.{Done, done-start, done-turn, done-end}
+use Rattle.attempt.proofs.merge.Statement.{statement}
+use Rattle.attempt.proofs.merge.Tie as tie
 
 abbrev Inv-loop : tie.InvT-loop
 Inv-loop reached state₀ r₀ state r = Done reached state₀ state r

@@ -20,7 +20,7 @@ use Rattle.board.proofs.Claims.{claim-cases, opposite-zero}
 use Rattle.theory.specs.Solve.{Good, Merged}
 use Rattle.grid.specs.Grid.{Grid, claims, gridBoard}
 use Rattle.scan.specs.Reach.{Store, mark, marked}
-use Rattle.search.specs.Merge.{settled, MergedBy}
+use Rattle.attempt.specs.Merge.{settled, MergedBy}
 
 pub picks-0 : (x y z : ℕ) → x ≡ 1 → 0 ≡ settled x y z
 picks-0 x y z e = rw (eq-eqb x 1 e)

@@ -21,10 +21,10 @@ use Rattle.scan.proofs.Sizes.{shows}
 use Rattle.spread.specs.Spread.{Starts, Spread}
 use Rattle.spread.specs.Walk.{Backs, Written, HalfWalk}
 use Rattle.spread.proofs.Meaning.{spread-is, unmarked-good, mark-one, half-backs, half-walk}
-use Rattle.search.specs.Merge.{MergedBy}
-use Rattle.search.specs.Settle.{Attempts, Attempted}
-use Rattle.search.proofs.Merging.{merged}
-use Rattle.search.proofs.Fours.{fours-length}
+use Rattle.attempt.specs.Merge.{MergedBy}
+use Rattle.attempt.specs.Attempt.{Attempts, Attempted}
+use Rattle.attempt.proofs.Merging.{merged}
+use Rattle.attempt.proofs.Fours.{fours-length}
 
 module _ {g : Grid} {s : Store} {c at : ℕ} {S W : List ℕ} (a : Attempts g s c S W at) where
   inside : c < claims g

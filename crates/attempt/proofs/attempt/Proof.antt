@@ -1,9 +1,9 @@
--- `search::attempt` meets its contract: the laws of `Attempts`, at the spread's store and the opposite of the start.
+-- `attempt::attempt` meets its contract: the laws of `Attempts`, at the spread's store and the opposite of the start.
 -- Assumes nothing.
-use Rattle.search.proofs.Attempts.{attempt-starts, merge-room, attempt-good, attempt-backs, attempt-fails}
+use Rattle.attempt.proofs.Attempts.{attempt-starts, merge-room, attempt-good, attempt-backs, attempt-fails}
 use borrow.Author.Needs.{needs}
-use Rattle.search.proofs.attempt.Statement.{statement}
-use Rattle.search.proofs.attempt.Tie as tie
+use Rattle.attempt.proofs.attempt.Statement.{statement}
+use Rattle.attempt.proofs.attempt.Tie as tie
 
 -- from the test of the opposite's mark back to the start, to the spread, and to the call of `opposite`
 abbrev start : tie.After-slice-known11 → tie.Start

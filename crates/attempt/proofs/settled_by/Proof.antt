@@ -1,9 +1,9 @@
--- `search::settled_by` meets its contract: by cases on the two tests, whose outcomes `omega` finds in `c`.
+-- `attempt::settled_by` meets its contract: by cases on the two tests, whose outcomes `omega` finds in `c`.
 -- Assumes nothing.
 use native.Mathlib.Omega.{arith}
-use Rattle.search.proofs.Merging.{picks-0, picks-1, picks-old}
-use Rattle.search.proofs.settled_by.Statement.{statement}
-use Rattle.search.proofs.settled_by.Tie as tie
+use Rattle.attempt.proofs.Merging.{picks-0, picks-1, picks-old}
+use Rattle.attempt.proofs.settled_by.Statement.{statement}
+use Rattle.attempt.proofs.settled_by.Tie as tie
 
 returns : tie.Need-returns
 returns c = let a = c .before .args in picks-0 (a .zero) (a .one) (a .old) (omega arith)
