@@ -18,9 +18,9 @@ use Rattle.wires.specs.Wires.{wire}
 use Rattle.wires.specs.Terms.{Setting, value, IsTrue, Breaks, Excuses}
 use Rattle.wires.proofs.Digits.{low-digit, wire-low, wire-high, wire-zero, wire-none, wire-above}
 use Rattle.wires.proofs.Sets.{wire-value, same-true}
+use Rattle.cubes.specs.Cubes.{Evens, Arranged, Filled}
+use Rattle.cubes.proofs.Cubed.{used}
 use Rattle.faults.specs.Table.{Faults, Marked, Waived, Cleared}
-use Rattle.faults.specs.Cubes.{Evens, Arranged, Filled}
-use Rattle.faults.proofs.Cubed.{used}
 use Rattle.faults.proofs.Places.{place, Has, more, no-more}
 
 -- ---- the cells' values

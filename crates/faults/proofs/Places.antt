@@ -17,9 +17,9 @@ use lib.Pow.{pow-add}
 use Rattle.wires.specs.Wires.{wire}
 use Rattle.wires.specs.Terms.{Setting}
 use Rattle.wires.proofs.Digits.{low-digit, wire-lt, wire-and, wire-or, wire-zero, wire-none, some-wire}
+use Rattle.cubes.specs.Cubes.{Part, Cube, at, Filled}
+use Rattle.cubes.proofs.Parts.{same}
 use Rattle.faults.specs.Table.{bit}
-use Rattle.faults.specs.Cubes.{Part, Cube, at, Filled}
-use Rattle.faults.proofs.Parts.{same}
 
 abbrev pub place : ℕ → ℕ → ℕ → ℕ
 place a x y = a * 2 ^ 2 + (x * 2 + y)

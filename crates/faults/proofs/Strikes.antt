@@ -12,8 +12,8 @@ use native.Mathlib.Omega.{arith}
 use lib.ListN.{length, getD}
 use Rattle.wires.specs.Terms.{Setting, Excuses, Excused}
 use Rattle.wires.proofs.Digits.{low-digit}
+use Rattle.cubes.proofs.Cubed.{used}
 use Rattle.faults.specs.Table.{bit, Turned, Waived, Struck}
-use Rattle.faults.proofs.Cubed.{used}
 use Rattle.faults.proofs.Boards.{first-more}
 
 -- t has 1 where it was so in s, and where one of the first k excuses excuses the combination

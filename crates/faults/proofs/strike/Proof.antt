@@ -4,7 +4,7 @@ use mathlib.Core.Path.{_∙_}
 use Prim.Native.Nat.{_-_, _≤_, _<_}
 use native.Mathlib.Omega.{arith}
 use borrow.Author.Needs.{needs}
-use Rattle.faults.proofs.Cubed.{last-most}
+use Rattle.cubes.proofs.Cubed.{last-most}
 use Rattle.faults.proofs.Strikes.{Waives, none-struck, none-waived, one-waived, struck}
 use Rattle.faults.proofs.strike.Statement.{statement}
 use Rattle.faults.proofs.strike.Tie as tie

@@ -9,8 +9,8 @@ use lib.Dec.{T, eqb, eqb→eq}
 use lib.Pow.{shr-shr}
 use Rattle.wires.specs.Wires.{wire}
 use Rattle.wires.proofs.Digits.{low-digit, wire-lt, wire-and, wire-or}
-use Rattle.faults.specs.Cubes.{Evens}
-use Rattle.faults.proofs.Tests.{both, both-left, both-right, at}
+use Rattle.cubes.specs.Cubes.{Evens}
+use Rattle.cubes.proofs.Tests.{both, both-left, both-right, at}
 
 abbrev pub step : ℕ → ℕ → ℕ → ℕ
 step k m z = bitAnd (bitOr z (z / 2 ^ k)) m

@@ -10,8 +10,8 @@ use lib.Bits.{bitAnd, bitOr, and-le-l}
 use lib.ListN.{length, getD, set, length-set}
 use lib.Seq.{getD-set-same, getD-set-other}
 use Rattle.wires.specs.Wires.{wire}
-use Rattle.faults.specs.Cubes.{Part, Added, Ored}
-use Rattle.faults.proofs.Parts.{part-le, step-down}
+use Rattle.cubes.specs.Cubes.{Part, Added, Ored}
+use Rattle.cubes.proofs.Parts.{part-le, step-down}
 
 -- ---- within a block
 

@@ -11,8 +11,8 @@ use lib.ListN.{getD}
 use lib.Pow.{pow-pos, pow-add, pow-mono}
 use Rattle.wires.specs.Wires.{wire}
 use Rattle.wires.proofs.Digits.{low-digit, wire-lt, wire-or}
-use Rattle.faults.specs.Cubes.{Part, Fits, Ored, Cube, at, Filled}
-use Rattle.faults.proofs.Parts.{part-le, and-within, split, join}
+use Rattle.cubes.specs.Cubes.{Part, Fits, Ored, Cube, at, Filled}
+use Rattle.cubes.proofs.Parts.{part-le, and-within, split, join}
 
 -- ---- how many blocks of 4 words there are
 

@@ -1,4 +1,4 @@
--- `faults::chosen` meets its contract. Assumes nothing.
+-- `cubes::chosen` meets its contract. Assumes nothing.
 use mathlib.Core.Path.{_≡_, sym, ap, _∙_}
 use Prim.Native.Nat.{ℕ, _*_}
 use native.Mathlib.Nat.{mul-one, mul-zero}
@@ -6,8 +6,8 @@ use native.Mathlib.Omega.{arith}
 use borrow.Author.Needs.{needs}
 use Rattle.wires.specs.Wires.{wire}
 use Rattle.wires.proofs.Digits.{wire-lt}
-use Rattle.faults.proofs.chosen.Statement.{statement}
-use Rattle.faults.proofs.chosen.Tie as tie
+use Rattle.cubes.proofs.chosen.Statement.{statement}
+use Rattle.cubes.proofs.chosen.Tie as tie
 
 shr-if1 : tie.Need-shr-if1
 shr-if1 c = search needs

@@ -8,7 +8,7 @@ use lib.Dec.{lit<}
 use lib.Pow.{split, pow-pos, pow-add, pow-mono, shl-exact}
 use Rattle.wires.specs.Wires.{wire}
 use Rattle.wires.proofs.Digits.{wire-low, wire-high, wire-lt, wire-below, wire-above}
-use Rattle.faults.specs.Cubes.{Arranged}
+use Rattle.cubes.specs.Cubes.{Arranged}
 
 pub one-shl : (n : ℕ) → n ≤ 14 → 1 * 2 ^ n % 2 ^ 32 ≡ 2 ^ n
 one-shl n l = shl-exact {a = 1} 1 n 32 (lit< tt) (omega arith) ∙ one-mul (2 ^ n)

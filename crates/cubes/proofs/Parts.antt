@@ -8,7 +8,7 @@ use lib.Arith.{bin-ind}
 use lib.Bits.{bitAnd, and-step, and-zero-r, and-le-r}
 use Rattle.wires.specs.Wires.{wire}
 use Rattle.wires.proofs.Digits.{low-digit, wire-low, wire-high, half-below}
-use Rattle.faults.specs.Cubes.{Part}
+use Rattle.cubes.specs.Cubes.{Part}
 
 -- ---- one digit of a part, and the others
 

@@ -14,9 +14,9 @@ use lib.Pow.{split, pow-pos}
 use borrow.Author.Tests.{eq-eqb, ne-eqb}
 use Rattle.wires.specs.Wires.{wire}
 use Rattle.wires.proofs.Digits.{wire-below, wire-above, wire-zero}
-use Rattle.faults.specs.Cubes.{Part, Fits}
-use Rattle.faults.proofs.Parts.{sum-part}
-use Rattle.faults.proofs.Tests.{every, at}
+use Rattle.cubes.specs.Cubes.{Part, Fits}
+use Rattle.cubes.proofs.Parts.{sum-part}
+use Rattle.cubes.proofs.Tests.{every, at}
 
 -- for each set of digits, the numbers that have 0 at each digit of the set
 abbrev free : List ℕ
