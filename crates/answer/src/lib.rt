@@ -1,6 +1,8 @@
 // The answer sheet: read left to right for a board's sizes, and written to a lent buffer (document 01, "Answer sheet").
 // Tables and walks stay in the sheet; reading tells which of the two it is. The definitions stand in specs/AnswerSheet
 // and specs/Written. Leans on the steps of `steps`.
+#![tactic(auto)]
+
 ghost use Rattle.std.specs.Prelude.{◌≡◌, ◌+◌, ◌≤◌, ◌<◌, length};
 ghost use Rattle.std.proofs.lemmas.List.Edits.{sets};
 ghost use Rattle.steps.specs.Found.{as_read};
@@ -17,7 +19,7 @@ pub const WALK_LIMIT: u32 = 2046;
 pub const LONGEST: usize = 8190;
 
 // What an answer sheet comes to: tables, a walk of so many entries, or a refusal.
-#[derive(Drop)]
+#[derive(Clone, Copy)]
 pub enum AnswerRead {
     Tables,
     Walk(u32),

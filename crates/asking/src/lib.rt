@@ -1,6 +1,7 @@
 // Whether job Q asks no more than job P, for two job sheets that were accepted (document 01, demand 3). What it means, and the
 // test that decides it, stand in specs/Asks; what was found in a sheet in specs/Taking. Leans on `wires` for the sets of terms,
 // and on the definitions and laws of `sheet` and `board`.
+#![tactic(auto)]
 ghost use Rattle.std.specs.Prelude.{◌≡◌, ◌+◌, ◌≤◌, length, take, drop};
 ghost use Rattle.sheet.specs.Job.{Job};
 ghost use Rattle.asking.specs.Asks.{same_pins, all_within, asksb};

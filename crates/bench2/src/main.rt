@@ -1,5 +1,6 @@
 // The small program for form two: reads one job sheet of form two from standard input and prints what `text` says of it
 // (document 02, request 2). Everything that matters is in `text`; here bytes come in and go out.
+#![tactic(auto)]
 use libc::{STDIN_FILENO, STDOUT_FILENO};
 use sheet::Form;
 use text::LONGEST_TEXT;

@@ -2,6 +2,8 @@
 // (document 01, "When tables fit, when a walk stands"; document 02, request 4). The definitions stand in specs/: Board, Tables
 // and Walk are the meaning, JobBoard the board of a job, Tested the test of one combination, Check the checker's outcome.
 // Relies on these alone and knows no solver.
+#![tactic(auto)]
+
 pub mod check;
 
 ghost use Rattle.std.specs.Prelude.{◌≡◌, ◌^◌, ◌<◌};
@@ -13,7 +15,7 @@ use sheet::JobHead;
 use wires::{Claim, Combination, first_broken, row_count, row_shown, some_within, truths};
 
 // What the test of one combination tells: the lowest-numbered rule that is broken, from 0, or that none is.
-#[derive(Drop)]
+#[derive(Clone, Copy)]
 pub enum Broken {
     Rule(usize),
     None,

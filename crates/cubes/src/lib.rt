@@ -2,6 +2,7 @@
 // cells is a number: cell B's value is its lowest digit, then comes cell A's, then the wires'. A cube is the places that have
 // given values at given digits, and so is a pattern within each word, a choice of the 4 words of each block, and a choice of
 // blocks. The definitions stand in specs/Cubes. Leans on the definitions and laws of `wires`.
+#![tactic(auto)]
 ghost use Rattle.std.specs.Prelude.{◌≡◌, ℕ, ◌+◌, ◌-◌, ◌*◌, ◌^◌, ◌<◌, ◌≤◌, length};
 ghost use Rattle.wires.specs.Wires.{wire};
 ghost use Rattle.cubes.specs.Cubes.{Evens, Arranged, Part, Fits, Added, Ored, Cube, Filled};

@@ -2,6 +2,7 @@
 // there. One digit for each, in a table of words of 64. The places where a rule is broken are those that have given digits where
 // the rule has terms, and so are a cube, or none; those that an excuse excuses likewise. The definitions stand in specs/Table.
 // Leans on `cubes`, which sets the places of a cube, and on the definitions and laws of `wires`.
+#![tactic(auto)]
 ghost use Rattle.std.specs.Prelude.{◌≡◌, ◌↔◌, true, ◌*◌, ◌^◌, ◌<◌, ◌≤◌, length};
 ghost use Rattle.faults.specs.Table.{bit, Faults, Marked, Cleared, Turned, Waived, Struck, Strikes};
 

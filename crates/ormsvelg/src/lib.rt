@@ -1,6 +1,7 @@
 // The C face: functions on numbers and byte slices for the bench's host program, each outcome as one 64-bit number
 // (document 01, "Bench use"). A slice passes as a pointer and a length; a null pointer with length 0 is an empty slice.
 // What each call does is said below; only the packing is of this crate.
+#![tactic(auto)]
 ghost use Rattle.std.specs.Prelude.{◌≡◌, length};
 ghost use Rattle.sheet.specs.declared.Form.TheVariants.{One, Two};
 ghost use Rattle.sheet.specs.JobSheet.{read_outcome};

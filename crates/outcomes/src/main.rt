@@ -6,6 +6,7 @@
 // A book has its numbers low byte first: two bytes, how many cases; then each case: one byte, the form of its job sheets, 1 or
 // 2 (any other byte is taken as 1), and job P, job Q and the answer, each as two bytes of length and so many bytes. Where the
 // input ends early, a byte of a number is 0 and a sheet is what was read of it.
+#![tactic(auto)]
 ghost use Rattle.std.specs.Prelude.{◌≡◌, ◌+◌, ◌*◌, ◌<◌, ◌≤◌, length};
 ghost use Rattle.io.specs.Counts.{IsPrefixLen};
 

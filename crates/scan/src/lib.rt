@@ -3,6 +3,7 @@
 // The caller lends the board's arrays (the row that each combination shows to A and to B, and its faults) and four arrays
 // with a place for each claim: a mark, a queue, and the parent claim and the combination by which each claim was reached.
 // The definitions stand in specs/Steps and specs/Reach. Leans on `wires` and `grid`.
+#![tactic(auto)]
 ghost use Rattle.std.specs.Prelude.{◌≡◌, ◌<◌, false};
 ghost use Rattle.grid.specs.Grid.{grid, bit};
 ghost use Rattle.scan.specs.Steps.{side_of, aim};
@@ -53,7 +54,7 @@ fn offer(
 
 // How a claim looks at the board: the wires that its cell sees and its row there; the first row of the other cell, and the
 // places of the fault bits by which steps lead to a 0 claim and to a 1 claim there.
-#[derive(Drop)]
+#[derive(Clone, Copy)]
 struct Side {
     seen: u32,
     row: u32,

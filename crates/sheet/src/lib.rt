@@ -2,6 +2,8 @@
 // rules, and after them the excuses, go to an array that is scratch of the caller's. Sections are functions on the sheet
 // and a place; read_job chains them with a Reader, which holds both. The definition, read_job, stands in specs/JobSheet.
 // Leans on the steps of `steps`.
+#![tactic(auto)]
+
 ghost use Rattle.std.specs.Prelude.{◌≡◌, ◌+◌, ◌≤◌};
 ghost use Rattle.std.proofs.lemmas.List.Edits.{sets};
 ghost use Rattle.steps.specs.Bytes.{count, word_count, end};
@@ -15,14 +17,14 @@ use steps::{
 };
 
 // The form of a job sheet, which the caller names. Form two has a fifth section, the excuses.
-#[derive(Drop)]
+#[derive(Clone, Copy)]
 pub enum Form {
     One,
     Two,
 }
 
 // A job in numbers: the pins stay in the sheet, from pins_at on, and the rules and excuses go to an array beside it.
-#[derive(Drop)]
+#[derive(Clone, Copy)]
 pub struct JobHead {
     pub wires: u32,
     pub sees_a: u32,
@@ -33,7 +35,7 @@ pub struct JobHead {
 }
 
 // What a sheet comes to.
-#[derive(Drop)]
+#[derive(Clone, Copy)]
 pub enum JobRead {
     Accepted(JobHead),
     Refused(Refusal),
@@ -188,7 +190,7 @@ pub fn read_terms(
 
 // While reading, the sheet and the place reached travel together. Each function over a Reader takes it apart and calls
 // the one on the sheet and the place; a step answers the place after it, and `moved` takes the Reader there.
-#[derive(Drop)]
+#[derive(Clone, Copy)]
 struct Reader<'a> {
     sheet: &'a [u8],
     place: usize,

@@ -1,6 +1,7 @@
 // The solver: the first fitting pair of tables, or a walk that stands (document 01, demand 2). The arrays of the job's board are
 // filled, searched, and what was found is written as an answer sheet. How a call can end stands in specs/Solved. Leans on
 // `board` by its promises, on `faults`, `grid` and `search`.
+#![tactic(auto)]
 ghost use Rattle.std.specs.Prelude.{◌≡◌, ◌++◌, ◌+◌, ◌/◌, ◌≤◌, length, take, drop};
 ghost use Rattle.answer.specs.AnswerSheet.{longest};
 ghost use Rattle.answer.specs.Written.{two, tables_sheet};

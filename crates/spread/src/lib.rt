@@ -5,6 +5,7 @@
 // The definitions stand in specs/Spread and specs/Walk; the laws that callers cite in proofs/Meaning. What the arrays hold, and
 // the scan of one claim, stand in `scan`.
 // Leans on `wires`, `answer`, `grid` and `scan`.
+#![tactic(auto)]
 ghost use Rattle.std.specs.Prelude.{◌≡◌, ◌≤◌, ◌++◌, length, drop, replicate};
 ghost use Rattle.board.specs.Board.{opposite as opp};
 ghost use Rattle.grid.specs.Grid.{grid};

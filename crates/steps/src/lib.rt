@@ -2,6 +2,8 @@
 // sheet is refused, and outcomes (document 01, "Outcome numbers"). Each step answers an enum: the number found with
 // the next place, or the refusal, which its caller hands up. The definitions stand in specs/Bytes and specs/Outcome.
 // Leans on nothing.
+#![tactic(auto)]
+
 ghost use Rattle.std.specs.Prelude.{◌≡◌};
 ghost use Rattle.steps.specs.Outcome.{code_of, answer_code_of, place_of, success, refusal_naming, refusal, rule_broken, refused_job, refused_answer};
 ghost use Rattle.steps.specs.Bytes.{byte, word, count, word_count, entry, end};
@@ -9,7 +11,7 @@ ghost use Rattle.steps.specs.Found.{as_read, within_of, why_of};
 
 // Why a sheet is refused, with the place. The first five are a job's, codes 1 to 5 in this order; an answer is refused by
 // its end, bytes left over, and the last three.
-#[derive(Drop)]
+#[derive(Clone, Copy)]
 pub enum Refusal {
     Ends(usize),
     TooMany(usize),
@@ -69,7 +71,7 @@ pub fn place_of(w: Refusal) -> usize
 }
 
 // An outcome is five numbers. Successes have sheet and place 0; refusals write 0 bytes; only code 10 names a rule.
-#[derive(Drop)]
+#[derive(Clone, Copy)]
 pub struct Outcome {
     pub code: u8,
     pub sheet: u8,
@@ -131,7 +133,7 @@ pub fn refused_answer(w: Refusal) -> Outcome
 }
 
 // What a reading step finds: a number with the next place, or the refusal.
-#[derive(Drop)]
+#[derive(Clone, Copy)]
 pub enum Read {
     Got(u32, usize),
     Refused(Refusal),

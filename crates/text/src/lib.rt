@@ -1,6 +1,7 @@
 // What the bench program prints for a job sheet, as bytes in a lent buffer (document 01, "Bench use"): the tables, the walk or
 // the refusal; and the five numbers of an outcome. Every byte is given by a definition in specs/Text and specs/Numbers. Leans
 // on the solver.
+#![tactic(auto)]
 ghost use Rattle.std.specs.Prelude.{◌≡◌, ◌∷◌, [], ◌+◌, ◌≤◌, length};
 ghost use Rattle.std.proofs.lemmas.List.Edits.{sets};
 ghost use Rattle.steps.specs.Outcome.{Ended};

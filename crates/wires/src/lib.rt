@@ -1,16 +1,18 @@
 // The numbers below everything: wires seen as masks, the row that a combination shows, and the terms of rules as masks.
 // Document 01, "Numbers used". The definitions stand in specs/Wires and specs/Terms; the laws that callers cite in
 // proofs/Rows, proofs/Parts and proofs/Terms. Leans on nothing.
+#![tactic(auto)]
+
 ghost use Rattle.std.specs.Prelude.{◌≡◌, ℕ, ◌+◌, ◌-◌, ◌%◌, ◌^◌, ◌<◌, ◌≤◌, true, ◌↔◌, length, take, bit_and, count_ones};
 ghost use Rattle.wires.specs.Wires.{shown, placed};
 ghost use Rattle.wires.specs.Terms.{Setting, Truths, Meets, FirstBroken, containsb, some_within};
 
 // Claim 2r says that row r holds 0, claim 2r + 1 that it holds 1; rows of A come first, then rows of B.
-#[derive(Drop)]
+#[derive(Clone, Copy)]
 pub struct Claim(pub u16);
 
 // A combination of the wires' values. Claim and combination are kept apart in every signature that has both.
-#[derive(Drop)]
+#[derive(Clone, Copy)]
 pub struct Combination(pub u16);
 
 // How many rows a cell has that sees the wires of `seen`: two to their number.

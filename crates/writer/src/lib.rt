@@ -2,6 +2,7 @@
 // two sets of seen wires and the rules, each set a mask. It is judged first, in section order; only where nothing is
 // amiss is anything written. The sheet, job_sheet, stands in specs/JobWritten, the outcome in specs/Writing. Leans on
 // `sheet` for the limits.
+#![tactic(auto)]
 ghost use Rattle.std.specs.Prelude.{◌≡◌, [], ◌∷◌, ◌+◌, ◌≤◌, ◌<◌, length};
 ghost use Rattle.std.proofs.lemmas.List.Edits.{sets};
 ghost use Rattle.sheet.specs.JobSheet.{wire_limit, rule_limit};
@@ -14,7 +15,7 @@ use sheet::{RULE_LIMIT, SEEN_LIMIT, WIRE_LIMIT, term_limit};
 use steps::{Outcome, refused, succeeded};
 
 // What judging a description comes to: nothing is amiss, or the code, section and place of the first thing that is.
-#[derive(Drop)]
+#[derive(Clone, Copy)]
 pub enum Judged {
     Fine,
     Amiss(u8, u8, usize),

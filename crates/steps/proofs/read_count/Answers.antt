@@ -1,0 +1,9 @@
+-- `steps::read_count` meets its contract. Assumes nothing.
+use mathlib.Core.Path.{ap, ◌∙◌}
+use borrow.Author.Rules.{rules}
+use Rattle.steps.specs.Found.{within_of}
+use Rattle.steps.proofs.Steps.{counted}
+use Rattle.steps.proofs.read_count.Goals as goal
+
+pub returns : goal.returns
+returns c = c.within.ensures ∙ ap (within_of _ _) c.read_byte.ensures ∙ counted _ _ _

@@ -1,0 +1,6 @@
+-- `steps::refused_answer` meets its contract. Assumes nothing.
+use borrow.Author.Rules.{rules}
+use Rattle.steps.proofs.refused_answer.Goals as goal
+
+pub returns : goal.returns
+returns c = cc

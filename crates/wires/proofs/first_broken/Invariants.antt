@@ -1,0 +1,18 @@
+-- `wires::first_broken` meets its contract. Invariant: each rule before `rule` has a true term. The measure is the rules left. Assumes nothing.
+use Rattle.std.proofs.Common.{◌≡◌, ℕ, ◌+◌, ◌-◌, ◌<◌, ◌≤◌, Bool, true, false, not, ◌↔◌, List, get_or, sym, ◌∙◌, arith, rules}
+use mathlib.Core.Bool.{false≢true}
+use mathlib.Core.Logic.{by_cases}
+use native.Mathlib.Decide.{ℕ_discrete}
+use borrow.Author.Tests.{not-true, not-false}
+use Rattle.wires.specs.Terms.{Meets, FirstBroken}
+use Rattle.wires.proofs.first_broken.Given as goal
+
+pub record Inv (rules : List ℕ) (count set rule : ℕ) : Type 0 where
+  pub within : rule ≤ count
+  pub before : (i : ℕ) → i < rule → Meets (get_or rules i 0) set
+
+abbrev pub invariant-loop-rule : goal.invariant-loop-rule
+invariant-loop-rule l = Inv l.rules l.count l.truths l.rule
+
+abbrev pub decreases-loop-rule : goal.decreases-loop-rule
+decreases-loop-rule l = l.count - l.rule

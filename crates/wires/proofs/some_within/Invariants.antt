@@ -1,0 +1,16 @@
+-- `wires::some_within` meets its contract. Invariant: r contains one of the sets exactly where it contains one of those from i on. The measure
+-- is the sets left. Assumes nothing.
+use Rattle.std.proofs.Common.{◌≡◌, ℕ, ◌+◌, ◌-◌, ◌<◌, ◌≤◌, Bool, true, false, List, length, get_or, take, drop, sym, refl, ◌∙◌, arith, rules}
+use Rattle.wires.specs.Terms.{containsb, some_within}
+use Rattle.wires.proofs.Sets.{some_turn, some-found, some_end}
+use Rattle.wires.proofs.some_within.Given as goal
+
+pub record Inv (sets : List ℕ) (count r i : ℕ) : Type 0 where
+  pub within : i ≤ count
+  pub left : some_within (take count sets) r ≡ some_within (drop i (take count sets)) r
+
+abbrev pub invariant-loop-i : goal.invariant-loop-i
+invariant-loop-i l = Inv l.sets l.count l.r l.i
+
+abbrev pub decreases-loop-i : goal.decreases-loop-i
+decreases-loop-i l = l.count - l.i
