@@ -3,6 +3,7 @@
 // given values at given digits, and so is a pattern within each word, a choice of the 4 words of each block, and a choice of
 // blocks. The definitions stand in specs/Cubes. Leans on the definitions and laws of `wires`.
 #![tactic(auto)]
+
 ghost use Rattle.std.specs.Prelude.{◌≡◌, ℕ, ◌+◌, ◌-◌, ◌*◌, ◌^◌, ◌<◌, ◌≤◌, length};
 ghost use Rattle.wires.specs.Wires.{wire};
 ghost use Rattle.cubes.specs.Cubes.{Evens, Arranged, Part, Fits, Added, Ored, Cube, Filled};

@@ -1,0 +1,18 @@
+-- `answer::read_below` meets its contract: the word that was found, and the test, say which case of `below` holds. Assumes nothing.
+use borrow.Author.Tests.{lt-ltb, le-ltb}
+use Rattle.steps.proofs.Steps.{stop, go_on}
+use Rattle.answer.specs.AnswerSheet.{below, is_below}
+use borrow.Author.Rules.{rules}
+use Rattle.answer.proofs.read_below.Goals as goal
+
+pub returns-in_default : goal.returns-in_default
+unfolding below
+returns-in_default c = rw (stop _ _ _ _ c.read_word-found.ensures c.in_default.is) c.in_default.is
+
+pub returns-then-v-limit : goal.returns-then-v-limit
+unfolding below is_below
+returns-then-v-limit c = rw (go_on _ _ _ _ _ c.read_word-found.ensures c.in-Got.is, lt-ltb _ _ c.if-v-limit.true)
+
+pub returns-else-v-limit : goal.returns-else-v-limit
+unfolding below is_below
+returns-else-v-limit c = rw (go_on _ _ _ _ _ c.read_word-found.ensures c.in-Got.is, le-ltb _ _ c.if-v-limit.false)

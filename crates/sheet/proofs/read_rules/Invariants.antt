@@ -1,0 +1,19 @@
+-- `sheet::read_rules` meets its contract. The invariant: the whole is what is left of the rules, from here on, and the lent array at the end is the array as it stands with what is left stored from first + i on. The measure is the count of what is left. Assumes nothing.
+use borrow.Author.Rules.{rules}
+use Prim.Native.Nat.{◌+◌, ◌-◌, ◌≤◌}
+use mathlib.Core.Path.{◌≡◌, sym, ap, ◌∙◌}
+use native.Mathlib.Numerals.{add-one-le}
+use native.Mathlib.Omega.{arith}
+use lib.Seq.{sets}
+use Rattle.steps.specs.Found.{as_read}
+use Rattle.sheet.specs.JobFound.{rules_pass, kept}
+use Rattle.steps.proofs.Steps.{found, faulty}
+use Rattle.sheet.proofs.Rules.{rules_from, rules-start, rules-go, rules-stop, rules-done, kept-start, kept-go, kept-stop, kept-done}
+use Rattle.sheet.proofs.read_rules.Given as goal
+
+abbrev pub invariant-loop-i : goal.invariant-loop-i
+invariant-loop-i l = (l.i ≤ l.count) × (rules_pass l.count l.terms l.sheet l.at ≡ rules_from (l.count - l.i) l.terms l.count l.sheet l.place)
+    × (sets l.initial.masks l.first (kept l.count l.terms l.sheet l.at) ≡ sets l.masks (l.first + l.i) (kept (l.count - l.i) l.terms l.sheet l.place))
+
+abbrev pub decreases-loop-i : goal.decreases-loop-i
+decreases-loop-i l = l.count - l.i
