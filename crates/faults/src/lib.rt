@@ -3,6 +3,7 @@
 // the rule has terms, and so are a cube, or none; those that an excuse excuses likewise. The definitions stand in specs/Table.
 // Leans on `cubes`, which sets the places of a cube, and on the definitions and laws of `wires`.
 #![tactic(auto)]
+
 ghost use Rattle.std.specs.Prelude.{◌≡◌, ◌↔◌, true, ◌*◌, ◌^◌, ◌<◌, ◌≤◌, length};
 ghost use Rattle.faults.specs.Table.{bit, Faults, Marked, Cleared, Turned, Waived, Struck, Strikes};
 

@@ -8,7 +8,3 @@ pub mod Ones
 pub mod Length
 pub mod Longest
 pub mod Forms
-pub mod Walks
-pub mod Readers
-pub mod Counts
-pub mod Chains

@@ -3,6 +3,7 @@
 // amiss is anything written. The sheet, job_sheet, stands in specs/JobWritten, the outcome in specs/Writing. Leans on
 // `sheet` for the limits.
 #![tactic(auto)]
+
 ghost use Rattle.std.specs.Prelude.{◌≡◌, [], ◌∷◌, ◌+◌, ◌≤◌, ◌<◌, length};
 ghost use Rattle.std.proofs.lemmas.List.Edits.{sets};
 ghost use Rattle.sheet.specs.JobSheet.{wire_limit, rule_limit};

@@ -1,0 +1,20 @@
+-- `faults::fill_rule` meets its contract, by the laws `marked` and `unmarked`. Assumes nothing.
+use borrow.Author.Rules.{rules}
+use Rattle.faults.proofs.Places.{cube}
+use Rattle.faults.proofs.Boards.{marked, unmarked}
+use Rattle.faults.proofs.fill_rule.Goals as goal
+
+pub fill_cube-requires : goal.fill_cube-requires
+fill_cube-requires c = record {
+  cube = cube _ _ _ c.arranged-down.ensures.small c.arranged-up.ensures.small c.requires.n_bound;
+  table_len = c.requires.table_len;
+}
+
+pub returns-then-down-up-eq0 : goal.returns-then-down-up-eq0
+returns-then-down-up-eq0 c = marked _ _ _ _ _ _ c.evens.ensures c.evens-2.ensures c.arranged-down.ensures c.arranged-up.ensures _ _
+    c.if-down-up-eq0.true
+    c.fill_cube.ensures
+
+pub returns-else-down-up-eq0 : goal.returns-else-down-up-eq0
+returns-else-down-up-eq0 c = unmarked _ _ _ _ _ _ c.evens.ensures c.evens-2.ensures c.arranged-down.ensures c.arranged-up.ensures _
+    c.if-down-up-eq0.false

@@ -1,0 +1,15 @@
+-- `faults::strike` meets its contract. The loop's invariant: the table is the turned one with the places of the excuses passed. The measure is what is
+-- left of the count. Assumes nothing.
+use mathlib.Core.Path.{◌∙◌}
+use Prim.Native.Nat.{◌-◌, ◌≤◌, ◌<◌}
+use native.Mathlib.Omega.{arith}
+use borrow.Author.Rules.{rules}
+use Rattle.cubes.proofs.Cubed.{last-most}
+use Rattle.faults.proofs.Strikes.{Waives, none-struck, none-waived, one-waived, struck}
+use Rattle.faults.proofs.strike.Given as goal
+
+abbrev pub invariant-loop-i : goal.invariant-loop-i
+invariant-loop-i l = (l.i ≤ l.count) × Waives l.n l.excuses l.i l.initial.table l.table
+
+abbrev pub decreases-loop-i : goal.decreases-loop-i
+decreases-loop-i l = l.count - l.i
