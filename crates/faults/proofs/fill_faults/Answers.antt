@@ -22,7 +22,7 @@ pub overflow_add-last : goal.overflow_add-last
 overflow_add-last c = omega (arith, few c)
 
 pub clear-requires : goal.clear-requires
-clear-requires c = omega (arith, few c.before, c.clear-arg-1.given.0.1)
+clear-requires c = omega (arith, (last-most _ _ c.requires.n_bound c.last_block-last.ensures), c.clear-arg-1.given.0.1)
 
 pub loop-i-init : goal.loop-i-init
 loop-i-init c = (omega arith, none-marked _ _ _ _ _ c.last_block-last.ensures c.clear-arg-1.given.0.1 c.clear.ensures)

@@ -25,7 +25,7 @@ pub overflow_add-end : goal.overflow_add-end
 overflow_add-end c = omega (arith, few c)
 
 pub turn-requires : goal.turn-requires
-turn-requires c = omega (arith, few c.before)
+turn-requires c = omega (arith, (last-most _ _ c.requires.wires c.last_block.ensures))
 
 pub loop-i-init : goal.loop-i-init
 loop-i-init c = (omega arith, none-waived _ _ _)
@@ -40,7 +40,7 @@ pub loop-i-preserved : goal.loop-i-preserved
 loop-i-preserved c = (omega arith, one-waived _ _ _ _ _ _ c.loop-i.invariant.1 c.fill_excuse.ensures)
 
 pub turn-requires-2 : goal.turn-requires-2
-turn-requires-2 c = omega (arith, few c.before.before.before.before.before)
+turn-requires-2 c = omega (arith, (last-most _ _ c.requires.wires c.last_block.ensures))
 
 pub returns : goal.returns
 returns c = struck _ _ _ _ _ _ _ _ _ c.last_block.ensures (omega arith) c.turn.ensures c.loop-i.invariant.1 c.turn-2.ensures

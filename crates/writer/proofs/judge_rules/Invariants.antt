@@ -1,0 +1,14 @@
+-- `writer::judge_rules` meets its contract. The invariant: the whole is what is left of the rules, from here on. The measure is the count of what is left. Assumes nothing.
+use mathlib.Core.Path.{◌≡◌, sym, ◌∙◌}
+use Prim.Native.Nat.{◌-◌}
+use borrow.Author.Rules.{rules}
+use lib.ListN.{length, drop}
+use Rattle.writer.specs.Writing.{judge_each, judge_rules}
+use Rattle.writer.proofs.Judging.{rules-stop, rules-go, each_turn, each-stop, each-end}
+use Rattle.writer.proofs.judge_rules.Given as goal
+
+abbrev pub invariant-loop-number : goal.invariant-loop-number
+invariant-loop-number l = judge_rules l.terms l.rules ≡ judge_each l.terms l.number (drop l.number l.rules)
+
+abbrev pub decreases-loop-number : goal.decreases-loop-number
+decreases-loop-number l = length l.rules - l.number
