@@ -2,6 +2,7 @@
 // test that decides it, stand in specs/Asks; what was found in a sheet in specs/Taking. Leans on `wires` for the sets of terms,
 // and on the definitions and laws of `sheet` and `board`.
 #![tactic(auto)]
+
 ghost use Rattle.std.specs.Prelude.{◌≡◌, ◌+◌, ◌≤◌, length, take, drop};
 ghost use Rattle.sheet.specs.Job.{Job};
 ghost use Rattle.asking.specs.Asks.{same_pins, all_within, asksb};

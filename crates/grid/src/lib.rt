@@ -1,6 +1,7 @@
 // A board as arrays: for each combination the row that it shows to A, the row that it shows to B, and its faults. Filled once
 // per job; a step test is then a look-up. The definitions stand in specs/Grid. Leans on `wires` and `faults`.
 #![tactic(auto)]
+
 ghost use Rattle.std.specs.Prelude.{◌≡◌, ◌≤◌, length};
 ghost use Rattle.grid.specs.Filled.{Doubles, Doubled, Asks, Rows, Faulted};
 

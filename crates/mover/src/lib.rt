@@ -2,6 +2,7 @@
 // section of no excuses more; going back that section is taken off, and a sheet that has excuses is refused. How a call
 // ends, for every string of bytes, stands in specs/Moved. Leans on `sheet` for reading.
 #![tactic(auto)]
+
 ghost use Rattle.std.specs.Prelude.{◌≡◌, ◌++◌, ◌-◌, ◌≤◌, length, take};
 ghost use Rattle.steps.specs.Outcome.{Ended};
 ghost use Rattle.sheet.specs.declared.Form.TheVariants.{One, Two};

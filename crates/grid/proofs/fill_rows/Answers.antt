@@ -1,5 +1,4 @@
--- `grid::fill_rows` meets its contract. The loop's invariant: each combination of the lowest p wires has the row that it shows, and `size` and `weight`
--- are the combinations and the rows of these wires. The measure is the wires left. Assumes nothing.
+-- `grid::fill_rows` meets its contract, by its invariant. Assumes nothing.
 use mathlib.Core.Path.{◌≡◌, refl, sym, ap, ◌∙◌, subst}
 use mathlib.Core.Logic.{⊎_elim, by_cases}
 use mathlib.Core.List.{List}
@@ -16,22 +15,9 @@ use Rattle.wires.specs.Wires.{wire, shown}
 use Rattle.wires.proofs.Digits.{low_digit}
 use Rattle.grid.specs.Filled.{Doubles, Doubled, Asks}
 use Rattle.grid.proofs.Doubling.{weight as weight-at, weight-none, row_within, first-half, second-half, weight-same, weight-next, weight-most}
-use Rattle.grid.proofs.fill_rows.Statement.{statement}
-use Rattle.grid.proofs.fill_rows.Tie as tie
-
-record Inv (wires seen p size weight : ℕ) (s t : List ℕ) : Type 0 where
-  asks : Asks wires seen t
-  within : p ≤ wires
-  sizes : size ≡ 2 ^ p
-  weighs : weight ≡ weight-at p seen
-  long : length t ≡ length s
-  rows : (a : ℕ) → a < 2 ^ p → get_or t a 0 ≡ shown p seen a
-
-abbrev invariant-loop : tie.invariant-loop
-invariant-loop wires seen rows₀ size₀ weight₀ p₀ rows size weight p = Inv wires seen p size weight rows₀ rows
-
-abbrev decreases-loop : tie.decreases-loop
-decreases-loop wires seen rows₀ size₀ weight₀ p₀ rows size weight p = wires - p
+use Rattle.grid.proofs.fill_rows.Invariants.{Inv}
+use Rattle.grid.proofs.fill_rows.Goals as goal
+use Rattle.grid.proofs.fill_rows.Goals.{then-seen-p-eq1, else-seen-p-eq1}
 
 -- ---- before the loop: no wire, one combination
 start : (wires seen : ℕ) (s : List ℕ) → Asks wires seen s → Inv wires seen 0 1 1 (set s 0 0) (set s 0 0)
@@ -124,72 +110,47 @@ all wires seen p size weight s t v g a h = subst (λ (k : ℕ). a < 2 ^ k → ge
     last : p ≡ wires
     last = omega arith
 
-slice-write-rows : tie.Need-slice-write-rows invariant-loop decreases-loop
-slice-write-rows c = omega (arith, pow_pos c.before.args.wires)
+pub bounds-rows-0 : goal.bounds-rows-0
+bounds-rows-0 c = omega (arith, pow_pos c.args.wires)
 
-loop-holds : tie.Need-loop-init invariant-loop decreases-loop
-loop-holds c = start _ _ _ c.before.requires
+pub loop-p-init : goal.loop-p-init
+loop-p-init c = start _ _ _ c.requires
 
-shr-if1 : tie.Need-overflow-shr-if1 invariant-loop decreases-loop
-shr-if1 c = omega arith
+pub overflow_shr-seen : goal.overflow_shr-seen
+overflow_shr-seen c = omega arith
 
-cast-double : tie.Need-overflow-cast-double invariant-loop decreases-loop
-cast-double c =
-    let q = c.before.before.before in
-    omega (arith, small _ _ _ _ _ _ _ q.loop.invariant (omega arith) c.before.if1.true)
+pub overflow_cast-weight : goal.overflow_cast-weight
+overflow_cast-weight c = omega (arith, small _ _ _ _ _ _ _ c.loop-p.invariant (omega arith) c.if-seen-p-eq1.true)
 
-double-requires : tie.Need-double-requires invariant-loop decreases-loop
-double-requires c κs = fits_on _ _ _ _ _ _ _ c.before.before.before.loop.invariant (omega arith) c.before.if1.true
+pub double-requires : goal.double-requires
+double-requires c = fits_on _ _ _ _ _ _ _ c.loop-p.invariant (omega arith) c.if-seen-p-eq1.true
 
-mul-weight : tie.Need-overflow-mul-weight invariant-loop decreases-loop
-mul-weight c =
-    let b = c.before.before.before.before in
-    omega (arith, small _ _ _ _ _ _ _ b.before.before.loop.invariant (omega arith) b.if1.true)
+pub overflow_mul-weight : goal.overflow_mul-weight
+overflow_mul-weight c = omega (arith, small _ _ _ _ _ _ _ c.loop-p.invariant (omega arith) c.if-seen-p-eq1.true)
 
-double-requires-2 : tie.Need-double-requires-2 invariant-loop decreases-loop
-double-requires-2 c κs = fits-off _ _ _ _ _ _ _ c.before.before.before.loop.invariant (omega arith)
+pub double-requires-else-seen-p-eq1 : goal.double-requires-else-seen-p-eq1
+double-requires-else-seen-p-eq1 c = fits-off _ _ _ _ _ _ _ c.loop-p.invariant (omega arith)
 
-mul-size : tie.Need-overflow-mul-size invariant-loop decreases-loop
-mul-size c = omega (arith, size_fits _ _ _ _ _ _ _ c.before.before.loop.invariant (omega arith))
+pub overflow_mul-size : goal.overflow_mul-size
+overflow_mul-size c = omega (arith, size_fits _ _ _ _ _ _ _ c.loop-p.invariant (omega arith))
 
-add-p : tie.Need-overflow-add-p invariant-loop decreases-loop
-add-p c = omega arith
+pub overflow_add-p : goal.overflow_add-p
+overflow_add-p c = omega arith
 
-loop-less : tie.Need-loop-smaller invariant-loop decreases-loop
-loop-less c = omega arith
+pub loop-p-smaller : goal.loop-p-smaller
+loop-p-smaller c = omega arith
 
-loop-again : tie.Need-loop-preserved invariant-loop decreases-loop
-loop-again c =
-    ⊎_elim
-    (λ t. turn_on _ _ _ _ _ _ _ c.before.before.loop.invariant (omega arith) _ _ _ t.5 t.0.taken t.2.ensures t.6)
-    (λ t. turn-off _ _ _ _ _ _ _ c.before.before.loop.invariant (omega arith) _ _ _ t.5 t.0.left t.2.ensures t.6)
-    c.if1.branch
+pub loop-p-preserved : goal.loop-p-preserved
+loop-p-preserved c = elim c.if-seen-p-eq1.branch [
+  then-seen-p-eq1 w ↦ turn_on _ _ _ _ _ _ _ c.loop-p.invariant (omega arith) _ _ _ w.rows-is w.if-seen-p-eq1.true w.double.ensures w.weight-is
+  | else-seen-p-eq1 w ↦ turn-off _ _ _ _ _ _ _ c.loop-p.invariant (omega arith) _ _ _ w.rows-is w.if-seen-p-eq1.false w.double-else-seen-p-eq1.ensures w.weight-is
+]
 
-same_length : tie.Need-same-length invariant-loop decreases-loop
-same_length c = c.before.loop.invariant.long ∙ length-set c.before.before.before.args.rows.now 0 0
+pub shape_of-rows : goal.shape_of-rows
+shape_of-rows c = c.loop-p.invariant.long ∙ length-set c.args.rows.now 0 0
 
-returns : tie.Need-returns invariant-loop decreases-loop
+pub returns : goal.returns
 returns c = record {
-  long = c.before.loop.invariant.long ∙ length-set c.before.before.before.args.rows.now 0 0;
-  rows = all _ _ _ _ _ _ _ c.before.loop.invariant (omega arith);
+  long = c.loop-p.invariant.long ∙ length-set c.args.rows.now 0 0;
+  rows = all _ _ _ _ _ _ _ c.loop-p.invariant (omega arith);
 }
-
-pub fill-rows-spec : {M : Type 1} → statement M
-fill-rows-spec =
-    tie.close
-    (tie.spec
-    invariant-loop
-    decreases-loop
-    slice-write-rows
-    loop-holds
-    shr-if1
-    cast-double
-    double-requires
-    mul-weight
-    double-requires-2
-    mul-size
-    add-p
-    loop-less
-    loop-again
-    same_length
-    returns)
