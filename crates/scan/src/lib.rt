@@ -4,6 +4,7 @@
 // with a place for each claim: a mark, a queue, and the parent claim and the combination by which each claim was reached.
 // The definitions stand in specs/Steps and specs/Reach. Leans on `wires` and `grid`.
 #![tactic(auto)]
+
 ghost use Rattle.std.specs.Prelude.{◌≡◌, ◌<◌, false};
 ghost use Rattle.grid.specs.Grid.{grid, bit};
 ghost use Rattle.scan.specs.Steps.{side_of, aim};
