@@ -1,6 +1,7 @@
 // One spread from a claim of the next row (document 01, demand 2): a good one settles all rows that it reached, of any other the way
 // back is half of a walk. What it asks and leaves stands in specs/Attempt; the argument in `theory`. Leans on `grid` and `spread`.
 #![tactic(auto)]
+
 ghost use Rattle.std.specs.Prelude.{◌≡◌, ◌*◌, ◌≤◌, length};
 ghost use Rattle.grid.specs.Grid.{grid};
 ghost use Rattle.scan.specs.Reach.{store};

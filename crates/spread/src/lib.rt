@@ -6,6 +6,7 @@
 // the scan of one claim, stand in `scan`.
 // Leans on `wires`, `answer`, `grid` and `scan`.
 #![tactic(auto)]
+
 ghost use Rattle.std.specs.Prelude.{◌≡◌, ◌≤◌, ◌++◌, length, drop, replicate};
 ghost use Rattle.board.specs.Board.{opposite as opp};
 ghost use Rattle.grid.specs.Grid.{grid};

@@ -1,0 +1,13 @@
+-- `spread::write_back` meets its contract. The invariant of its loop is `Back`: the entries so far, and the claim's place in the queue, which falls with each turn. The measure is the room for the entries that are left.
+-- Assumes nothing.
+use Prim.Native.Nat.{◌+◌, ◌*◌, ◌-◌}
+use native.Mathlib.Omega.{arith}
+use borrow.Author.Rules.{rules}
+use Rattle.spread.proofs.Back.{Back, back_start, back_done, back_from, back_by, back-room, back-fall, back-turn}
+use Rattle.spread.proofs.write_back.Given as goal
+
+abbrev pub invariant-loop-c : goal.invariant-loop-c
+invariant-loop-c l = Back l.queue l.from l.by l.r l.s l.initial.c l.at l.initial.out l.out l.c l.last
+
+abbrev pub decreases-loop-c : goal.decreases-loop-c
+decreases-loop-c l = l.at + 4 * l.r - l.last
