@@ -2,6 +2,7 @@
 // the 0 claim, and where that fails one from the 1 claim; where both fail the two ways back are a walk. What each function asks
 // and leaves stands in specs/Settle; the argument in `theory`. Leans on `grid` and `attempt`.
 #![tactic(auto)]
+
 ghost use Rattle.grid.specs.Grid.{grid};
 ghost use Rattle.scan.specs.Reach.{store};
 ghost use Rattle.search.specs.Settle.{Settles, Settled, Searches, Searched};
