@@ -2,6 +2,7 @@
 // filled, searched, and what was found is written as an answer sheet. How a call can end stands in specs/Solved. Leans on
 // `board` by its promises, on `faults`, `grid` and `search`.
 #![tactic(auto)]
+
 ghost use Rattle.std.specs.Prelude.{◌≡◌, ◌++◌, ◌+◌, ◌/◌, ◌≤◌, length, take, drop};
 ghost use Rattle.answer.specs.AnswerSheet.{longest};
 ghost use Rattle.answer.specs.Written.{two, tables_sheet};

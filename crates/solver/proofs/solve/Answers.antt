@@ -1,0 +1,31 @@
+-- `solver::solve` meets its contract: a job is refused, or its board is solved where there is room. Assumes nothing.
+use mathlib.Core.Path.{refl, sym, ap, ◌∙◌}
+use native.Mathlib.Omega.{arith}
+use borrow.Author.Rules.{rules}
+use lib.ListN.{length, replicate}
+use Rattle.sheet.proofs.Jobs.{job-refused}
+use Rattle.board.proofs.Accepting.{stored-length, taken}
+use Rattle.solver.specs.Solved.{refused}
+use Rattle.solver.proofs.Boards.{taken-no-room, taken-solved}
+use Rattle.solver.proofs.solve.Goals as goal
+
+pub returns-then-answer-lt-LONGEST : goal.returns-then-answer-lt-LONGEST
+returns-then-answer-lt-LONGEST c = let t = taken _ _ (replicate 320 0) refl _ _ _ c.read_job-read.ensures.value c.in-Accepted.is c.read_job-read.ensures.masks_after in
+    taken-no-room t c.if-answer-lt-LONGEST.true c.refused.ensures
+
+pub slice_bounds-solve_board-end : goal.slice_bounds-solve_board-end
+slice_bounds-solve_board-end c = sym (ap length c.read_job-read.ensures.masks_after ∙ stored-length _ _ (replicate 320 0) refl)
+
+pub solve_board-requires : goal.solve_board-requires
+solve_board-requires c = let t = taken _ _ (replicate 320 0) refl _ _ _ c.read_job-read.ensures.value c.in-Accepted.is c.read_job-read.ensures.masks_after in
+    record {
+  sized = t.sized;
+  longest_in_bounds = omega arith;
+}
+
+pub returns-else-answer-lt-LONGEST : goal.returns-else-answer-lt-LONGEST
+returns-else-answer-lt-LONGEST c = let t = taken _ _ (replicate 320 0) refl _ _ _ c.read_job-read.ensures.value c.in-Accepted.is c.read_job-read.ensures.masks_after in
+    taken-solved t c.if-answer-lt-LONGEST.false c.solve_board.ensures
+
+pub returns-in-Refused : goal.returns-in-Refused
+returns-in-Refused c = refused _ (job-refused _ _ _ _ c.read_job-read.ensures.value c.in-Refused.is) c.refused_job.ensures refl
