@@ -43,8 +43,8 @@ module _ (o : Outcome) (entry : List ℕ) {r : Outcome} where
   pub numbered-wrote : {exit : List ℕ} {m : ℕ} → longest_numbers ≤ length entry → length (numbers_text o) ≤ longest_numbers → Stored entry 0 (numbers_text o) exit m → r ≡ success 0 m → Ended (numbered o entry) r exit
   unfolding numbered
   numbered-wrote {exit} {m} large short x e =
-      let long : m ≡ length (numbers_text o) = omega (arith, x.0) in
-      rw (le-ltb (length entry) longest_numbers large) (record { outcome = e ∙ ap (success 0) long; exit_is = x.1 ∙ at_front entry (numbers_text o) (omega arith) })
+      let long : m ≡ length (numbers_text o) = omega (arith, x.value) in
+      rw (le-ltb (length entry) longest_numbers large) (record { outcome = e ∙ ap (success 0) long; exit_is = x.out_after ∙ at_front entry (numbers_text o) (omega arith) })
 
   -- by the test on the buffer's length
   fits : (b : Bool) {exit : List ℕ} → Ended (pick b (refusing (refusal 6 0 0) entry) (writing 0 (numbers_text o) entry)) r exit → r.written ≤ length exit

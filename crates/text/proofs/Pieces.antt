@@ -14,18 +14,18 @@ use Rattle.steps.proofs.Runs.{joined}
 
 -- t was stored from the place `at` on in a buffer that held l; m is the place after it
 abbrev pub Stored : (l : List ℕ) (at : ℕ) (t exit : List ℕ) (m : ℕ) → Type 0
-Stored l at t exit m = (m ≡ at + length t) × (exit ≡ sets l at t)
+Stored l at t exit m = record { value : m ≡ at + length t; out_after : exit ≡ sets l at t }
 
 module _ (l : List ℕ) (at : ℕ) (t u : List ℕ) where
   pub both_stored : {l₁ l₂ : List ℕ} {m₁ m₂ : ℕ} → Stored l at t l₁ m₁ → Stored l₁ m₁ u l₂ m₂ → Stored l at (t ++ u) l₂ m₂
-  both_stored {l₁} {l₂} {m₁} {m₂} x y = (omega (arith, x.0, y.0, length-append t u), joined l l₁ l₂ at m₁ t u x.1 x.0 y.1)
+  both_stored {l₁} {l₂} {m₁} {m₂} x y = record { value = omega (arith, x.value, y.value, length-append t u); out_after = joined l l₁ l₂ at m₁ t u x.out_after x.value y.out_after }
 
   module _ (fits : at + length (t ++ u) ≤ length l) where
     pub first_fits : at + length t ≤ length l
     first_fits = omega (arith, length-append t u)
 
     pub next_fits : {l₁ : List ℕ} {m₁ : ℕ} → Stored l at t l₁ m₁ → m₁ + length u ≤ length l₁
-    next_fits x = omega (arith, x.0, ap length x.1 ∙ length-sets l at t, length-append t u)
+    next_fits x = omega (arith, x.value, ap length x.out_after ∙ length-sets l at t, length-append t u)
 
 -- three texts that fit: there is room for each, and they are stored
 pub record Three (l : List ℕ) (at : ℕ) (t u v : List ℕ) : Type 0 where

@@ -2,6 +2,7 @@
 // the refusal; and the five numbers of an outcome. Every byte is given by a definition in specs/Text and specs/Numbers. Leans
 // on the solver.
 #![tactic(auto)]
+
 ghost use Rattle.std.specs.Prelude.{◌≡◌, ◌∷◌, [], ◌+◌, ◌≤◌, length};
 ghost use Rattle.std.proofs.lemmas.List.Edits.{sets};
 ghost use Rattle.steps.specs.Outcome.{Ended};

@@ -2,6 +2,7 @@
 // ends, for every four strings of bytes, stands in specs/Widened. Leans on the checker for the answer against P, and on
 // `asking` for whether Q asks no more.
 #![tactic(auto)]
+
 ghost use Rattle.std.specs.Prelude.{◌≡◌, ℕ, ◌+◌, ◌^◌, ◌<◌, get_or};
 ghost use Rattle.std.specs.Int.Count.{ones};
 ghost use Rattle.std.proofs.lemmas.List.Edits.{sets};
