@@ -2,6 +2,7 @@
 // (document 01, "Bench use"). A slice passes as a pointer and a length; a null pointer with length 0 is an empty slice.
 // What each call does is said below; only the packing is of this crate.
 #![tactic(auto)]
+
 ghost use Rattle.std.specs.Prelude.{◌≡◌, length};
 ghost use Rattle.sheet.specs.declared.Form.TheVariants.{One, Two};
 ghost use Rattle.sheet.specs.JobSheet.{read_outcome};

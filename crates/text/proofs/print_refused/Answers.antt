@@ -1,6 +1,6 @@
 -- `text::print_refused` meets its contract: three texts make the line. Assumes nothing.
 use mathlib.Core.List.{List, [], ◌∷◌}
-use Prim.Native.Nat.{◌≤◌}
+use Prim.Native.Nat.{ℕ, ◌≤◌}
 use native.Mathlib.Omega.{arith}
 use borrow.Author.Rules.{rules}
 use lib.ListN.{length}
@@ -17,11 +17,11 @@ pieces : (o : Outcome) (l : List ℕ) → length (refused_text o) ≤ length l �
 pieces o l fits = three l 0 head_refused (first_three o) (10 ∷ []) (omega (arith, fits))
 
 pub write_first_three-after_place-requires : goal.write_first_three-after_place-requires
-write_first_three-after_place-requires c = (pieces c.args.o c.args.out.now (omega (arith, refused-short c.args.o (omega arith) (omega arith) (omega arith), c.requires))).second c.write_rows-at_code.ensures
+write_first_three-after_place-requires c = (pieces c.args.o c.args.out.now (omega (arith, refused-short c.args.o (omega arith) (omega arith) (omega arith), c.requires))).second (record { value = c.write_rows-at_code.ensures.value; out_after = c.write_rows-at_code.ensures.buf_after })
 
 pub write_byte-requires : goal.write_byte-requires
-write_byte-requires c = (pieces c.args.o c.args.out.now (omega (arith, refused-short c.args.o (omega arith) (omega arith) (omega arith), c.requires))).third c.write_rows-at_code.ensures c.write_first_three-after_place.ensures
+write_byte-requires c = (pieces c.args.o c.args.out.now (omega (arith, refused-short c.args.o (omega arith) (omega arith) (omega arith), c.requires))).third (record { value = c.write_rows-at_code.ensures.value; out_after = c.write_rows-at_code.ensures.buf_after }) c.write_first_three-after_place.ensures
 
 pub returns : goal.returns
-returns c = let all = (pieces c.args.o c.args.out.now (omega (arith, refused-short c.args.o (omega arith) (omega arith) (omega arith), c.requires))).all c.write_rows-at_code.ensures c.write_first_three-after_place.ensures c.write_byte.ensures in
+returns c = let all = (pieces c.args.o c.args.out.now (omega (arith, refused-short c.args.o (omega arith) (omega arith) (omega arith), c.requires))).all (record { value = c.write_rows-at_code.ensures.value; out_after = c.write_rows-at_code.ensures.buf_after }) c.write_first_three-after_place.ensures c.write_byte.ensures in
     printed (refused_text c.args.o) _ _ _ (omega (arith, refused-short c.args.o (omega arith) (omega arith) (omega arith), c.requires)) (omega (arith, all.value)) all.out_after
