@@ -7,12 +7,13 @@
 // 2 (any other byte is taken as 1), and job P, job Q and the answer, each as two bytes of length and so many bytes. Where the
 // input ends early, a byte of a number is 0 and a sheet is what was read of it.
 #![tactic(auto)]
-ghost use Rattle.std.specs.Prelude.{◌≡◌, ◌+◌, ◌*◌, ◌<◌, ◌≤◌, length};
-ghost use Rattle.io.specs.Counts.{IsPrefixLen};
+
+ghost use Rattle.std.specs.Prelude.{◌≡◌, ◌+◌, ◌*◌, ◌<◌, ◌≤◌, IfOk, length};
 
 use answer::LONGEST;
-use libc::{STDIN_FILENO, STDOUT_FILENO};
 use sheet::Form;
+use std::io;
+use std::io::{Read, Write};
 use steps::Outcome;
 use text::LONGEST_NUMBERS;
 
@@ -27,50 +28,49 @@ fn word(low: u8, high: u8) -> usize
 }
 
 // Reads a number of two bytes.
-fn read_word() -> usize
-    ensures { result < 65536 }
+fn read_word<R: Read>(book: &mut R) -> io::Result<usize>
+    ensures { IfOk result (λ n. n < 65536) }
 {
     let mut bytes = [0u8; 2];
-    io::read_full(STDIN_FILENO, &mut bytes);
-    word(bytes[0], bytes[1])
+    input::read_full(book, &mut bytes)?;
+    Ok(word(bytes[0], bytes[1]))
 }
 
 // Reads the form of a case's job sheets: two for the byte 2, one for any other.
-fn read_form() -> Form {
+fn read_form<R: Read>(book: &mut R) -> io::Result<Form> {
     let mut bytes = [0u8; 1];
-    io::read_full(STDIN_FILENO, &mut bytes);
-    if bytes[0] == 2 { Form::Two } else { Form::One }
+    input::read_full(book, &mut bytes)?;
+    Ok(if bytes[0] == 2 { Form::Two } else { Form::One })
 }
 
 // Reads a sheet to the front of an array. Answers how many bytes came.
-fn read_sheet(sheet: &mut [u8]) -> usize
+fn read_sheet<R: Read>(book: &mut R, sheet: &mut [u8]) -> io::Result<usize>
     requires { 65536 ≤ length sheet.old }
-    ensures { IsPrefixLen result sheet.new }
+    ensures { IfOk result (λ n. n ≤ length sheet.new) }
 {
-    let asked = read_word();
-    io::read_full(STDIN_FILENO, &mut sheet[..asked])
+    let asked = read_word(book)?;
+    input::read_full(book, &mut sheet[..asked])
 }
 
 // Prints a line: a name, and the numbers of an outcome.
-fn print_numbers(name: &[u8], o: Outcome) {
-    io::write_all(STDOUT_FILENO, name);
+fn print_numbers<W: Write>(lines: &mut W, name: &[u8], o: Outcome) -> io::Result<()> {
+    lines.write_all(name)?;
     let mut line = [0u8; LONGEST_NUMBERS];
     let printed = text::numbers(o, &mut line);
-    let n = printed.written;
-    io::write_all(STDOUT_FILENO, &line[..n]);
+    lines.write_all(&line[..printed.written])
 }
 
 // Reads a case and prints its two lines. The lent buffer is never too short.
-fn answer_case() {
-    let form = read_form();
+fn answer_case<R: Read, W: Write>(book: &mut R, lines: &mut W) -> io::Result<()> {
+    let form = read_form(book)?;
     let mut p = [0u8; SHEET];
-    let length_p = read_sheet(&mut p);
+    let length_p = read_sheet(book, &mut p)?;
     let mut q = [0u8; SHEET];
-    let length_q = read_sheet(&mut q);
+    let length_q = read_sheet(book, &mut q)?;
     let mut answer = [0u8; SHEET];
-    let length = read_sheet(&mut answer);
+    let length = read_sheet(book, &mut answer)?;
     let checked = board::check::check(form, &p[..length_p], &answer[..length]);
-    print_numbers(b"check ", checked);
+    print_numbers(lines, b"check ", checked)?;
     let mut out = [0u8; LONGEST];
     let widened = widener::widen(
         form,
@@ -79,15 +79,16 @@ fn answer_case() {
         &answer[..length],
         &mut out,
     );
-    print_numbers(b"widen ", widened);
+    print_numbers(lines, b"widen ", widened)
 }
 
 // As many cases as the book says.
-fn main() {
-    let cases = read_word();
-    let mut i: usize = 0;
-    while i < cases {
-        answer_case();
-        i += 1;
+fn main(rt: HostRuntime) -> io::Result<()> {
+    let mut book = rt.stdin();
+    let mut lines = io::writer(&rt);
+    let cases = read_word(&mut book)?;
+    for _ in 0..cases {
+        answer_case(&mut book, &mut lines)?;
     }
+    Ok(())
 }
