@@ -1,4 +1,4 @@
-# Ormsvelg: what there is to run. Build outputs go to build/, what rt proves and writes to target/.
+# Ormsvelg: what there is to run. Build outputs go to build/, what rt proves and builds to the out/ of each crate.
 #   make test                         the whole gate, .ci/run
 #   make run JOB=FILE                 the answer for a job sheet, as the bench prints it
 #   make build/ormsvelg               the command: ormsvelg read, solve, check, widen, write and move for files, in words
@@ -21,16 +21,16 @@ FORM ?= 1
 
 VERSION = 0.5.1
 PREFIX ?= /usr/local
-LIBRARY = target/staticlib/libormsvelg.a
-BENCH = target/bin/bench
-BENCH2 = target/bin/bench2
-OUTCOMES = target/bin/outcomes
+LIBRARY = crates/ormsvelg/out/libormsvelg.a
+BENCH = crates/bench/out/bench
+BENCH2 = crates/bench2/out/bench2
+OUTCOMES = crates/outcomes/out/outcomes
 C = -std=c11 -Wall -Wextra -Werror
 # Loops are aligned, so that no time hangs on where the linker happens to put a short one.
 CXXFLAGS = -std=c++20 -Wall -Wextra -Werror -O3 -falign-functions=64 -falign-loops=64
 HOST = tools/x86 cc $(C) -Wpedantic -O2 -Iinclude
 SANITIZED = -O0 -g -fsanitize=address,undefined -fno-sanitize-recover=all
-PROVED = crates.txt $(shell find crates -name '*.rt' -o -name '*.antt')
+PROVED = crates.txt $(shell find crates -name out -prune -o \( -name '*.rt' -o -name '*.antt' \) -print)
 
 .PHONY: test run read check install host-test host-test-sanitized compare speed clean
 
@@ -38,11 +38,15 @@ test:
 	.ci/run
 
 $(LIBRARY): $(PROVED)
-	rt staticlib ormsvelg
+	cd crates/ormsvelg && rt lib
+	@touch $@
 
-# What rt says goes to standard error, so that a run prints the answer alone.
-$(BENCH) $(BENCH2) $(OUTCOMES): target/bin/%: $(PROVED)
-	@rt check $* >&2
+# rt builds a program by running it, here on no input. What rt says goes to standard error, so that a run prints the answer alone.
+$(BENCH): PROGRAM = bench
+$(BENCH2): PROGRAM = bench2
+$(OUTCOMES): PROGRAM = outcomes
+$(BENCH) $(BENCH2) $(OUTCOMES): $(PROVED)
+	@cd crates/$(PROGRAM) && rt run </dev/null >/dev/null
 	@touch $@
 
 COMMAND = host/ormsvelg.c $(addprefix host/,archive.h board.h describe.h request.h save.h sheet.h words.h) include/ormsvelg.h \
@@ -160,4 +164,4 @@ speed: build/native/speed
 	build/native/speed
 
 clean:
-	rm -rf build target
+	rm -rf build crates/*/out

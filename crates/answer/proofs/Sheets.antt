@@ -17,7 +17,7 @@ use lib.Dec.{leb, eqb}
 use lib.ListN.{length, get_or, drop, length-append, get_or-append, drop_of_length-le}
 use lib.Seq.{drop-cons, get_or-append-add, get_or-append_seam}
 use Rattle.steps.specs.Step.{got, next}
-use Rattle.steps.specs.Bytes.{word, end}
+use Rattle.steps.specs.Bytes.{word}
 use Rattle.steps.proofs.Near.{byte-there, end_read}
 use Rattle.answer.specs.Answer.{Entry, tables, walk, answered}
 use Rattle.answer.specs.AnswerSheet.{walk_limit, permitted, exactly, kind_count, walk_count, is_bit, bit, bits, is_below, below, entry, entries, tables_rest, walk_rest, answer, read_answer}

@@ -1,10 +1,9 @@
 -- What the answer reader's enum says of the definitions' answers. Assumes nothing: these are definitions.
 use Rattle.std.specs.Prelude.{ℕ, length}
-use Rattle.steps.specs.declared.Refusal.{Refusal}
-use Rattle.steps.specs.Step.{Step, got, refused, Reading, ◌>>=◌, give}
+use Rattle.steps.specs.Step.{Reading, ◌>>=◌, give}
 use Rattle.answer.specs.declared.AnswerRead.{AnswerRead}
 use Rattle.answer.specs.declared.AnswerRead.TheVariants.{Tables, Walk, Refused}
-use Rattle.answer.specs.Answer.{Entry, Answer, tables, walk, AnswerVerdict, answered, rejected}
+use Rattle.answer.specs.Answer.{Answer, tables, walk, AnswerVerdict, answered, rejected}
 use Rattle.answer.specs.AnswerSheet.{bits, entries, tables_rest, walk_rest}
 
 -- n table entries, of which nothing is kept: they stay in the sheet

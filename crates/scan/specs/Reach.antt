@@ -7,7 +7,7 @@
 --     Looked     one look: the two claims of the other cell's row are offered, each by its fault bit
 --     Visited    the scan of one claim: each combination that shows its row is looked at once, in rising order, and no other
 -- Assumes nothing: these are definitions.
-use Rattle.std.specs.Prelude.{◌≡◌, ℕ, zero, suc, ◌+◌, ◌<◌, ◌≤◌, Bool, ◌&&◌, ◌⊎◌, List, length, set, ◌==◌, ◌≢◌, nat_lt, slice_index, slice_index_or, slice_set}
+use Rattle.std.specs.Prelude.{◌≡◌, ℕ, zero, suc, ◌+◌, ◌<◌, ◌≤◌, Bool, ◌&&◌, ◌⊎◌, List, length, ◌==◌, ◌≢◌, nat_lt, slice_index, slice_index_or, slice_set}
 use Rattle.grid.specs.Grid.{Grid, claims, bit, Sound}
 use Rattle.scan.specs.Steps.{ShowsRow, Step, Aim, aim_of, base}
 

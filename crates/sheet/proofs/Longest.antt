@@ -13,11 +13,11 @@ use native.Mathlib.Omega.{arith}
 use borrow.Author.Tests.{lt-ltb, le-leb}
 use lib.ListN.{length, get_or, length-append, get_or-append}
 use lib.Seq.{get_or-append-add}
-use Rattle.steps.specs.Step.{Step, got, next}
+use Rattle.steps.specs.Step.{got}
 use Rattle.sheet.specs.declared.Form.{Form}
 use Rattle.sheet.specs.declared.Form.TheVariants.{One, Two}
 use Rattle.sheet.specs.Job.{Job, Head, accepted}
-use Rattle.steps.specs.Bytes.{byte, word, within, count, word_count, rising, entry, entries, end}
+use Rattle.steps.specs.Bytes.{byte, word, within, count, word_count, rising, entry, entries}
 use Rattle.sheet.specs.JobSheet.{mask_of, mask, counted_mask, rules, excuses, head, job, read_job, excuse_limit, longest}
 use Rattle.steps.proofs.Near.{Alike, byte-there, end_read}
 use Rattle.sheet.proofs.Length.{near-head}

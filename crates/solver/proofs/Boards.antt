@@ -22,7 +22,7 @@ use Rattle.sheet.specs.declared.JobHead.{JobHead}
 use Rattle.wires.specs.Terms.{Setting}
 use Rattle.wires.proofs.Sets.{same_test}
 use Rattle.answer.specs.AnswerSheet.{longest}
-use Rattle.board.specs.Board.{Board, Shows, rows}
+use Rattle.board.specs.Board.{Board, Shows}
 use Rattle.board.specs.JobBoard.{head_board, Sized}
 use Rattle.board.proofs.Accepting.{Taken}
 use Rattle.board.proofs.Checked.{shows}

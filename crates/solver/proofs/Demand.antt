@@ -9,24 +9,24 @@
 --     same-job             two sheets, in whichever forms, that are read as one job end alike
 --     first-bytes          the first 7,458 bytes of a longer job decide, and in form two the first 9,060
 -- Assumes nothing.
-use mathlib.Core.Path.{◌≡◌, refl, sym, ap, subst, ◌∙◌}
+use mathlib.Core.Path.{◌≡◌, sym, ap, subst, ◌∙◌}
 use mathlib.Core.List.{List, ◌++◌}
 use mathlib.Core.Logic.{◌⊎◌, ◌↔◌, inl, inr}
-use Prim.Native.Nat.{ℕ, ◌+◌, ◌*◌, ◌-◌, ◌<◌, ◌≤◌}
+use Prim.Native.Nat.{ℕ, ◌+◌, ◌*◌, ◌-◌, ◌≤◌}
 use native.Mathlib.Omega.{arith}
 use lib.ListN.{length, take, drop}
-use lib.Seq.{take-append_seam, drop-append_seam, take_at, drop_at}
+use lib.Seq.{take_at, drop_at}
 use Rattle.steps.specs.declared.Outcome.{Outcome}
 use Rattle.steps.specs.declared.Refusal.{Refusal}
-use Rattle.steps.specs.Outcome.{success, refusal, refused_job}
+use Rattle.steps.specs.Outcome.{success, refused_job}
 use Rattle.sheet.specs.declared.Form.{Form}
-use Rattle.sheet.specs.Job.{Job, Verdict, accepted, rejected}
+use Rattle.sheet.specs.Job.{Job, accepted, rejected}
 use Rattle.sheet.specs.JobSheet.{read_job}
 use Rattle.sheet.specs.JobSheet.{longest as longest_job}
 use Rattle.sheet.proofs.Length.{first-decide}
 use Rattle.answer.specs.Answer.{Entry}
 use Rattle.answer.specs.AnswerSheet.{longest}
-use Rattle.answer.specs.Written.{tables_sheet, walk_sheet, IsPair, IsWalk}
+use Rattle.answer.specs.Written.{tables_sheet, walk_sheet}
 use Rattle.board.specs.Board.{Board, rows}
 use Rattle.board.specs.Tables.{Pair, First}
 use Rattle.board.specs.Walk.{Stands}

@@ -2,7 +2,7 @@
 -- Sheets are read left to right; the first fault decides. Assumes nothing: these are definitions.
 use Rattle.std.specs.Prelude.{ℕ, zero, suc, ◌+◌, ◌*◌, List, [], ◌∷◌, length, get_or, ltb, leb}
 use Rattle.steps.specs.declared.Refusal.TheVariants.{Ends, TooMany, NotRising, TooHigh, LeftOver}
-use Rattle.steps.specs.Step.{Step, got, refused, Reading, ◌>>=◌, give, pick}
+use Rattle.steps.specs.Step.{got, refused, Reading, ◌>>=◌, give, pick}
 
 -- a byte. Code 1, where the sheet ends, at its length
 unfoldable pub byte : Reading ℕ

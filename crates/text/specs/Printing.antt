@@ -5,7 +5,7 @@
 use Rattle.std.specs.Prelude.{◌≡◌, List, [], ◌∷◌, ◌++◌, ℕ, zero, suc, ◌+◌, ◌*◌, ◌<◌, ◌≤◌, length, get_or, take, drop}
 use Rattle.answer.specs.Answer.{Entry}
 use Rattle.board.specs.Places.{word_at, claim_in, combination_in}
-use Rattle.text.specs.Text.{longest_text, digits, tables_text, walk_text}
+use Rattle.text.specs.Text.{longest_text, tables_text, walk_text}
 
 -- k entries from entry i on
 unfoldable pub entries_from : (s : List ℕ) (i k : ℕ) → List Entry

@@ -17,7 +17,6 @@ use Rattle.board.proofs.Walks.{soundness}
 use Rattle.theory.proofs.Reach.{closed-walk, reach-cast, within-cast}
 use Rattle.theory.proofs.First.{settled-first}
 use Rattle.theory.proofs.Explore.{explore}
-use Rattle.theory.proofs.Spreads.{clash-not-good}
 use Rattle.theory.proofs.Merge.{merge, merge-merged, merge-settles, skip, blank-settling}
 
 module _ (B : Board) where

@@ -7,20 +7,17 @@
 --     walk-carries     if the solver's outcome for Q is a walk, its outcome for P is a walk
 --     tables-carry     if its outcome for P is tables, its outcome for Q is tables
 -- Assumes nothing.
-use mathlib.Core.Path.{◌≡◌, refl, sym, ap, subst, ◌∙◌}
-use mathlib.Core.Bool.{Bool, true}
-use mathlib.Core.List.{List, [], ◌∷◌, ◌++◌}
-use mathlib.Core.Logic.{◌↔◌}
-use Prim.Native.Nat.{ℕ, zero, suc, ◌+◌, ◌*◌, ◌^◌, ◌<◌, ◌≤◌}
+use mathlib.Core.Path.{◌≡◌, sym, ap, subst, ◌∙◌}
+use mathlib.Core.Bool.{true}
+use mathlib.Core.List.{List, ◌++◌}
+use Prim.Native.Nat.{ℕ, ◌+◌, ◌^◌, ◌<◌, ◌≤◌}
 use native.Mathlib.Nat.{zero-add}
 use native.Mathlib.Omega.{arith}
 use lib.Bits.{bit_and}
-use lib.Count.{ones}
-use lib.Dec.{eqb}
 use borrow.Author.Tests.{eqb-true}
 use lib.ListN.{length, get_or, take, drop, length-append, length-drop, take-append-drop, get_or-append}
 use lib.Seq.{get_or-append-add, get_or-take, get_or-drop, length-take-le}
-use Rattle.wires.specs.Wires.{wire, shown, placed}
+use Rattle.wires.specs.Wires.{shown, placed}
 use Rattle.wires.specs.Terms.{Holds, Fault, Excused, Contains}
 use Rattle.wires.proofs.Rows.{row_below, shown-placed, wider}
 use Rattle.wires.proofs.Sets.{contains-iff}
@@ -31,8 +28,8 @@ use Rattle.sheet.specs.Job.{Job, accepted}
 use Rattle.sheet.specs.JobSheet.{read_job}
 use Rattle.sheet.proofs.Laws.{job-bounds}
 use Rattle.answer.specs.AnswerSheet.{longest}
-use Rattle.answer.specs.Written.{tables_sheet, IsPair}
-use Rattle.board.specs.Board.{Board, Shows, rows, at_b}
+use Rattle.answer.specs.Written.{IsPair}
+use Rattle.board.specs.Board.{Shows, at_b}
 use Rattle.board.specs.Tables.{held, Pair, Tables, Fits}
 use Rattle.board.specs.JobBoard.{faultb, job_board}
 use Rattle.board.specs.Check.{check_outcome}
@@ -44,7 +41,7 @@ use Rattle.theory.proofs.Widen.{widened-pair}
 use Rattle.solver.specs.Solved.{Solved}
 use Rattle.solver.proofs.Demand.{tables-iff, walk-stands}
 use Rattle.asking.specs.Asks.{AsksNoMore}
-use Rattle.widener.specs.Table.{narrow_row, tabled, widen_table, widen_sheet}
+use Rattle.widener.specs.Table.{narrow_row, widen_table, widen_sheet}
 use Rattle.widener.proofs.Tabling.{tabled-length, tabled-at}
 
 -- ---- boards

@@ -4,7 +4,6 @@ use Rattle.steps.proofs.Steps.{found, faulty, handed}
 use Rattle.answer.specs.declared.AnswerRead.TheVariants.{Refused}
 use Rattle.answer.specs.AnswerFound.{as_answer}
 use Rattle.answer.proofs.Sections.{no_kind, no_walk, walk-found, no-tables, tables-found}
-use borrow.Author.Rules.{rules}
 use Rattle.answer.proofs.read_answer.Goals as goal
 
 pub returns-in_default : goal.returns-in_default

@@ -2,7 +2,6 @@
 use borrow.Author.Tests.{lt-ltb, le-ltb}
 use Rattle.steps.proofs.Steps.{stop, go_on}
 use Rattle.answer.specs.AnswerSheet.{below, is_below}
-use borrow.Author.Rules.{rules}
 use Rattle.answer.proofs.read_below.Goals as goal
 
 pub returns-in_default : goal.returns-in_default

@@ -2,7 +2,6 @@
 use borrow.Author.Tests.{le-leb, lt-leb}
 use Rattle.steps.proofs.Steps.{stop, go_on}
 use Rattle.answer.specs.AnswerSheet.{bit, is_bit}
-use borrow.Author.Rules.{rules}
 use Rattle.answer.proofs.read_bit.Goals as goal
 
 pub returns-in_default : goal.returns-in_default

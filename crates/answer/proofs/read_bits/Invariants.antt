@@ -1,12 +1,8 @@
 -- `answer::read_bits` meets its contract. The invariant: the whole is what is left of the rows, from here on. The measure is the count of what is left. Assumes nothing.
-use borrow.Author.Rules.{rules}
-use mathlib.Core.Path.{◌≡◌, refl, sym, ap, ◌∙◌}
+use mathlib.Core.Path.{◌≡◌}
 use Rattle.steps.specs.Step.{next, got}
-use Rattle.steps.specs.Found.{as_read}
-use Rattle.steps.proofs.Steps.{found, faulty}
 use Rattle.answer.specs.AnswerSheet.{bits}
 use Rattle.answer.specs.AnswerFound.{bits_pass}
-use Rattle.answer.proofs.Many.{bits-many, many-go, many-stop, many-done}
 use Rattle.answer.proofs.read_bits.Given as goal
 
 abbrev pub invariant-loop-left : goal.invariant-loop-left

@@ -1,10 +1,7 @@
 -- `answer::read_entries` meets its contract, by its invariant. Assumes nothing.
-use borrow.Author.Rules.{rules}
-use mathlib.Core.Path.{◌≡◌, refl, sym, ap, ◌∙◌}
-use Rattle.steps.specs.Step.{next, got}
+use mathlib.Core.Path.{refl, sym, ap, ◌∙◌}
 use Rattle.steps.specs.Found.{as_read}
 use Rattle.steps.proofs.Steps.{found, faulty}
-use Rattle.answer.specs.AnswerSheet.{entries}
 use Rattle.answer.specs.AnswerFound.{entries_pass}
 use Rattle.answer.proofs.Many.{entries-many, many-go, many-stop, many-done}
 use Rattle.answer.proofs.Sections.{entry-there, no-claim, no-combination}

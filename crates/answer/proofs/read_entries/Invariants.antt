@@ -1,13 +1,8 @@
 -- `answer::read_entries` meets its contract. The invariant: the whole is what is left of the entries, from here on. The measure is the count of what is left. Assumes nothing.
-use borrow.Author.Rules.{rules}
-use mathlib.Core.Path.{◌≡◌, refl, sym, ap, ◌∙◌}
+use mathlib.Core.Path.{◌≡◌}
 use Rattle.steps.specs.Step.{next, got}
-use Rattle.steps.specs.Found.{as_read}
-use Rattle.steps.proofs.Steps.{found, faulty}
 use Rattle.answer.specs.AnswerSheet.{entries}
 use Rattle.answer.specs.AnswerFound.{entries_pass}
-use Rattle.answer.proofs.Many.{entries-many, many-go, many-stop, many-done}
-use Rattle.answer.proofs.Sections.{entry-there, no-claim, no-combination}
 use Rattle.answer.proofs.read_entries.Given as goal
 
 abbrev pub invariant-loop-left : goal.invariant-loop-left

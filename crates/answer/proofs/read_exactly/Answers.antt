@@ -2,7 +2,6 @@
 use borrow.Author.Tests.{eq-eqb, ne_eqb}
 use Rattle.steps.proofs.Steps.{stop, go_on}
 use Rattle.answer.specs.AnswerSheet.{exactly, permitted}
-use borrow.Author.Rules.{rules}
 use Rattle.answer.proofs.read_exactly.Goals as goal
 
 pub returns-in_default : goal.returns-in_default

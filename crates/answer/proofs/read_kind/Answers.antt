@@ -2,7 +2,6 @@
 use borrow.Author.Tests.{eq-eqb, ne_eqb}
 use Rattle.steps.proofs.Steps.{stop, go_on}
 use Rattle.answer.specs.AnswerSheet.{kind_count, permitted}
-use borrow.Author.Rules.{rules}
 use Rattle.answer.proofs.read_kind.Goals as goal
 
 pub returns-in_default : goal.returns-in_default

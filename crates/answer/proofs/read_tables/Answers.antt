@@ -1,7 +1,6 @@
 -- `answer::read_tables` meets its contract: `at1` to `at4` are the places after the first four calls, and `tables-is` says what follows each. Assumes nothing.
 use Rattle.steps.proofs.Steps.{stop, go_on}
 use Rattle.answer.proofs.Sections.{tables-is}
-use borrow.Author.Rules.{rules}
 use Rattle.answer.proofs.read_tables.Goals as goal
 
 pub returns-in_default : goal.returns-in_default

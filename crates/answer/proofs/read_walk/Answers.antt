@@ -1,7 +1,6 @@
 -- `answer::read_walk` meets its contract: `at1` to `at4` are the places after the four calls, and `walk_is` says what follows each. Assumes nothing.
 use Rattle.steps.proofs.Steps.{stop, go_on}
 use Rattle.answer.proofs.Sections.{walk_is}
-use borrow.Author.Rules.{rules}
 use Rattle.answer.proofs.read_walk.Goals as goal
 
 pub returns-in_default : goal.returns-in_default

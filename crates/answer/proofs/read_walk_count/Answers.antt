@@ -2,7 +2,6 @@
 use borrow.Author.Tests.{le-leb, lt-leb}
 use Rattle.steps.proofs.Steps.{stop, go_on}
 use Rattle.answer.specs.AnswerSheet.{walk_count, permitted}
-use borrow.Author.Rules.{rules}
 use Rattle.answer.proofs.read_walk_count.Goals as goal
 
 pub returns-in_default : goal.returns-in_default

@@ -2,7 +2,6 @@
 use native.Mathlib.Omega.{arith}
 use Rattle.answer.specs.Written.{two}
 use Rattle.steps.proofs.Runs.{joined}
-use borrow.Author.Rules.{rules}
 use Rattle.answer.proofs.write_entry.Goals as goal
 
 pub returns : goal.returns

@@ -1,10 +1,8 @@
 -- `answer::write_rows` meets its contract, by its invariant. Assumes nothing.
 use borrow.Author.Rules.{rules}
 use native.Mathlib.Omega.{arith}
-use Prim.Native.Nat.{◌+◌, ◌-◌, ◌≤◌}
-use mathlib.Core.Path.{◌≡◌, sym, ◌∙◌}
-use lib.ListN.{length, drop, length-set}
-use lib.Seq.{sets}
+use mathlib.Core.Path.{sym, ◌∙◌}
+use lib.ListN.{length-set}
 use native.Mathlib.Nat.{add-zero}
 use Rattle.steps.proofs.Runs.{sets-turn, sets-done}
 use Rattle.answer.proofs.write_rows.Goals as goal

@@ -1,12 +1,8 @@
 -- `answer::write_rows` meets its contract. The invariant: the run at the end is the buffer as it stands with the rows that are left stored from here on. The measure is the count of those. Assumes nothing.
-use borrow.Author.Rules.{rules}
-use native.Mathlib.Omega.{arith}
 use Prim.Native.Nat.{◌+◌, ◌-◌, ◌≤◌}
-use mathlib.Core.Path.{◌≡◌, sym, ◌∙◌}
-use lib.ListN.{length, drop, length-set}
+use mathlib.Core.Path.{◌≡◌}
+use lib.ListN.{length, drop}
 use lib.Seq.{sets}
-use native.Mathlib.Nat.{add-zero}
-use Rattle.steps.proofs.Runs.{sets-turn, sets-done}
 use Rattle.answer.proofs.write_rows.Given as goal
 
 abbrev pub invariant-loop-i : goal.invariant-loop-i

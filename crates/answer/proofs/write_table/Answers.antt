@@ -3,7 +3,6 @@ use native.Mathlib.Omega.{arith}
 use Rattle.answer.specs.Written.{two}
 use Rattle.steps.proofs.Runs.{joined}
 use lib.ListN.{length}
-use borrow.Author.Rules.{rules}
 use Rattle.answer.proofs.write_table.Goals as goal
 
 pub returns : goal.returns

@@ -3,7 +3,6 @@ use native.Mathlib.Omega.{arith}
 use mathlib.Core.Path.{refl}
 use native.Mathlib.Numerals.{add-one}
 use lib.ListN.{length-set}
-use borrow.Author.Rules.{rules}
 use Rattle.answer.proofs.write_two.Goals as goal
 
 pub bounds-buf-at-2 : goal.bounds-buf-at-2

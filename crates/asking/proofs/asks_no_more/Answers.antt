@@ -2,7 +2,6 @@
 -- Assumes nothing.
 use mathlib.Core.Path.{refl}
 use native.Mathlib.Omega.{arith}
-use borrow.Author.Rules.{rules}
 use Rattle.board.proofs.Rules.{excuses-there}
 use Rattle.asking.proofs.Asked.{pins-in, rules-in, other-wires, other-pins, unseen-a, unseen-b, more-rules, asks_rest}
 use Rattle.asking.proofs.asks_no_more.Goals as goal

@@ -1,14 +1,10 @@
 -- `asking::same_pins` meets its contract. Invariant: all pins are equal exactly where those from i on are. The measure is the pins left.
 -- Assumes nothing.
-use mathlib.Core.Path.{◌≡◌, refl, sym, ◌∙◌}
-use mathlib.Core.Bool.{true, false}
+use mathlib.Core.Path.{◌≡◌}
 use mathlib.Core.List.{List}
-use Prim.Native.Nat.{ℕ, ◌+◌, ◌-◌, ◌<◌, ◌≤◌}
-use native.Mathlib.Omega.{arith}
-use borrow.Author.Rules.{rules}
-use lib.ListN.{length, get_or}
+use Prim.Native.Nat.{ℕ, ◌-◌, ◌≤◌}
 use Rattle.asking.specs.Asks.{same_pins}
-use Rattle.asking.proofs.Within.{pins_from, pins-turn, pins-differ, pins-end}
+use Rattle.asking.proofs.Within.{pins_from}
 use Rattle.asking.proofs.same_pins.Given as goal
 
 pub record Inv (p q : List ℕ) (n i : ℕ) : Type 0 where

@@ -1,7 +1,6 @@
 -- `attempt::attempt` meets its contract: the laws of `Attempts`, at the spread's store and the opposite of the start.
 -- Assumes nothing.
 use Rattle.attempt.proofs.Attempts.{attempt-starts, merge-room, attempt-good, attempt-backs, attempt-fails}
-use borrow.Author.Rules.{rules}
 use Rattle.attempt.proofs.attempt.Goals as goal
 
 pub spread-count-requires : goal.spread-count-requires

@@ -1,9 +1,6 @@
 -- `attempt::merge` meets its contract, by its invariant. Assumes nothing.
-use Prim.Native.Nat.{◌-◌}
 use native.Mathlib.Omega.{arith}
-use borrow.Author.Rules.{rules}
-use lib.ListN.{length}
-use Rattle.attempt.proofs.Merging.{Done, done-start, done-turn, done_end}
+use Rattle.attempt.proofs.Merging.{done-start, done-turn, done_end}
 use Rattle.attempt.proofs.merge.Goals as goal
 
 pub loop-r-init : goal.loop-r-init

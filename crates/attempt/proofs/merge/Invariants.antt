@@ -1,10 +1,8 @@
 -- `attempt::merge` meets its contract. The invariant is `Done`: the rows below r are done, and the others are as they were. The measure is what is left of the rows.
 -- Assumes nothing.
 use Prim.Native.Nat.{◌-◌}
-use native.Mathlib.Omega.{arith}
-use borrow.Author.Rules.{rules}
 use lib.ListN.{length}
-use Rattle.attempt.proofs.Merging.{Done, done-start, done-turn, done_end}
+use Rattle.attempt.proofs.Merging.{Done}
 use Rattle.attempt.proofs.merge.Given as goal
 
 abbrev pub invariant-loop-r : goal.invariant-loop-r

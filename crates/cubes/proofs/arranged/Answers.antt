@@ -1,6 +1,5 @@
 -- `cubes::arranged` meets its contract, by the law `arranged_is`. Assumes nothing.
 use native.Mathlib.Omega.{arith}
-use borrow.Author.Rules.{rules}
 use lib.Pow.{pow_pos}
 use Rattle.cubes.proofs.Arrange.{one_shl, arranged_is}
 use Rattle.cubes.proofs.arranged.Goals as goal

@@ -3,7 +3,6 @@ use mathlib.Core.Path.{◌≡◌, sym, ap, ◌∙◌}
 use Prim.Native.Nat.{ℕ, ◌*◌}
 use native.Mathlib.Nat.{mul-one, mul-zero}
 use native.Mathlib.Omega.{arith}
-use borrow.Author.Rules.{rules}
 use Rattle.wires.specs.Wires.{wire}
 use Rattle.wires.proofs.Digits.{wire-lt}
 use Rattle.cubes.proofs.chosen.Goals as goal

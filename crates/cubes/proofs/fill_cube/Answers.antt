@@ -1,6 +1,5 @@
 -- `cubes::fill_cube` meets its contract, by the law `filled-by`. Assumes nothing.
 use native.Mathlib.Omega.{arith}
-use borrow.Author.Rules.{rules}
 use Rattle.cubes.proofs.Cubed.{part_low, part-row, fixed-last, in_table, filled-by}
 use Rattle.cubes.proofs.fill_cube.Goals as goal
 

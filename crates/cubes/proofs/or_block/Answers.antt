@@ -1,7 +1,5 @@
 -- `cubes::or_block` meets its contract, by its invariant. Assumes nothing.
-use Prim.Native.Nat.{◌-◌, ◌≤◌}
 use native.Mathlib.Omega.{arith}
-use Rattle.cubes.specs.Cubes.{Added}
 use Rattle.cubes.proofs.Words.{none-added, add-one-more, all-added}
 use Rattle.cubes.proofs.or_block.Goals as goal
 

@@ -1,9 +1,7 @@
 -- `cubes::or_block` meets its contract. The loop's invariant: the words passed have the pattern added. The measure is what is left of the four.
 -- Assumes nothing.
 use Prim.Native.Nat.{◌-◌, ◌≤◌}
-use native.Mathlib.Omega.{arith}
 use Rattle.cubes.specs.Cubes.{Added}
-use Rattle.cubes.proofs.Words.{none-added, add-one-more, all-added}
 use Rattle.cubes.proofs.or_block.Given as goal
 
 abbrev pub invariant-loop-j : goal.invariant-loop-j

@@ -3,7 +3,6 @@ use mathlib.Core.Path.{◌∙◌}
 use Prim.Native.Nat.{◌+◌, ◌-◌, ◌<◌}
 use native.Mathlib.Omega.{arith}
 use lib.Bits.{and_self, and_le_l}
-use Rattle.cubes.specs.Cubes.{Part, Ored}
 use Rattle.cubes.proofs.Parts.{part-le, and-within}
 use Rattle.cubes.proofs.Words.{none_yet, last, next}
 use Rattle.cubes.proofs.or_blocks.Goals as goal
@@ -42,6 +41,6 @@ loop-sub-smaller c = omega (arith, and_le_l (c.loop-sub.sub - 1) c.args.free)
 
 pub loop-sub-preserved : goal.loop-sub-preserved
 loop-sub-preserved c = let inv = c.loop-sub.invariant in (
-      and-within (c.loop-sub.sub - 1) c.args.free,
-      next _ _ _ _ _ _ _ _ inv.0 inv.1 c.or_block.ensures (omega arith),
-    )
+  and-within (c.loop-sub.sub - 1) c.args.free,
+  next _ _ _ _ _ _ _ _ inv.0 inv.1 c.or_block.ensures (omega arith),
+)

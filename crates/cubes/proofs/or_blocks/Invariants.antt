@@ -1,12 +1,7 @@
 -- `cubes::or_blocks` meets its contract. The loop's invariant: the blocks at the parts of `free` above `sub` are done, and no others. The measure is `sub`.
 -- Assumes nothing.
-use mathlib.Core.Path.{◌∙◌}
-use Prim.Native.Nat.{◌+◌, ◌-◌, ◌<◌}
-use native.Mathlib.Omega.{arith}
-use lib.Bits.{and_self, and_le_l}
+use Prim.Native.Nat.{◌+◌}
 use Rattle.cubes.specs.Cubes.{Part, Ored}
-use Rattle.cubes.proofs.Parts.{part-le, and-within}
-use Rattle.cubes.proofs.Words.{none_yet, last, next}
 use Rattle.cubes.proofs.or_blocks.Given as goal
 
 abbrev pub invariant-loop-sub : goal.invariant-loop-sub

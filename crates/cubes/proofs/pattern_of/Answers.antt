@@ -1,7 +1,6 @@
 -- `cubes::pattern_of` meets its contract, by the law `fits`. Assumes nothing.
 use Prim.Native.Nat.{◌-◌}
 use native.Mathlib.Omega.{arith}
-use borrow.Author.Rules.{rules}
 use lib.Bits.{and_le_r}
 use Rattle.cubes.proofs.Parts.{part-le}
 use Rattle.cubes.proofs.Patterns.{fits}

@@ -1,5 +1,4 @@
 -- `faults::fault` meets its contract: the digit is read where it lies. Assumes nothing.
-use borrow.Author.Rules.{rules}
 use borrow.Author.Tests.{eq-eqb, eqb-true}
 use Rattle.faults.proofs.fault.Goals as goal
 

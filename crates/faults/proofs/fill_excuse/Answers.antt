@@ -1,5 +1,4 @@
 -- `faults::fill_excuse` meets its contract, by the laws `waived` and `unwaived`. Assumes nothing.
-use borrow.Author.Rules.{rules}
 use Rattle.faults.proofs.Places.{cube}
 use Rattle.faults.proofs.Boards.{waived, unwaived}
 use Rattle.faults.proofs.fill_excuse.Goals as goal

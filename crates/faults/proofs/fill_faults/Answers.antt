@@ -1,9 +1,7 @@
 -- `faults::fill_faults` meets its contract, by its invariant. Assumes nothing.
-use Prim.Native.Nat.{◌-◌, ◌≤◌, ◌<◌}
+use Prim.Native.Nat.{◌<◌}
 use native.Mathlib.Omega.{arith}
-use borrow.Author.Rules.{rules}
 use Rattle.cubes.proofs.Cubed.{last-most}
-use Rattle.faults.specs.Table.{Faults}
 use Rattle.faults.proofs.Boards.{none-marked, one_more, all-marked}
 use Rattle.faults.proofs.fill_faults.Goals as goal
 use Rattle.faults.proofs.fill_faults.Goals.{After-last_block-last}

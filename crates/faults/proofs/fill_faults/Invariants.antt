@@ -1,11 +1,7 @@
 -- `faults::fill_faults` meets its contract. The loop's invariant: the table is that of the rules passed. The measure is what is left of the count.
 -- Assumes nothing.
-use Prim.Native.Nat.{◌-◌, ◌≤◌, ◌<◌}
-use native.Mathlib.Omega.{arith}
-use borrow.Author.Rules.{rules}
-use Rattle.cubes.proofs.Cubed.{last-most}
+use Prim.Native.Nat.{◌-◌, ◌≤◌}
 use Rattle.faults.specs.Table.{Faults}
-use Rattle.faults.proofs.Boards.{none-marked, one_more, all-marked}
 use Rattle.faults.proofs.fill_faults.Given as goal
 
 abbrev pub invariant-loop-i : goal.invariant-loop-i

@@ -1,5 +1,4 @@
 -- `faults::fill_rule` meets its contract, by the laws `marked` and `unmarked`. Assumes nothing.
-use borrow.Author.Rules.{rules}
 use Rattle.faults.proofs.Places.{cube}
 use Rattle.faults.proofs.Boards.{marked, unmarked}
 use Rattle.faults.proofs.fill_rule.Goals as goal

@@ -1,10 +1,9 @@
 -- `faults::strike` meets its contract, by its invariant. Assumes nothing.
 use mathlib.Core.Path.{◌∙◌}
-use Prim.Native.Nat.{◌-◌, ◌≤◌, ◌<◌}
+use Prim.Native.Nat.{◌<◌}
 use native.Mathlib.Omega.{arith}
-use borrow.Author.Rules.{rules}
 use Rattle.cubes.proofs.Cubed.{last-most}
-use Rattle.faults.proofs.Strikes.{Waives, none-struck, none-waived, one-waived, struck}
+use Rattle.faults.proofs.Strikes.{none-struck, none-waived, one-waived, struck}
 use Rattle.faults.proofs.strike.Goals as goal
 use Rattle.faults.proofs.strike.Goals.{After-last_block}
 

@@ -1,11 +1,7 @@
 -- `faults::strike` meets its contract. The loop's invariant: the table is the turned one with the places of the excuses passed. The measure is what is
 -- left of the count. Assumes nothing.
-use mathlib.Core.Path.{◌∙◌}
-use Prim.Native.Nat.{◌-◌, ◌≤◌, ◌<◌}
-use native.Mathlib.Omega.{arith}
-use borrow.Author.Rules.{rules}
-use Rattle.cubes.proofs.Cubed.{last-most}
-use Rattle.faults.proofs.Strikes.{Waives, none-struck, none-waived, one-waived, struck}
+use Prim.Native.Nat.{◌-◌, ◌≤◌}
+use Rattle.faults.proofs.Strikes.{Waives}
 use Rattle.faults.proofs.strike.Given as goal
 
 abbrev pub invariant-loop-i : goal.invariant-loop-i

@@ -1,14 +1,10 @@
 -- `faults::turn` meets its contract. The loop's invariant: the digits of each word passed are turned, and the other words are as they were.
 -- The measure is what is left. Assumes nothing.
-use mathlib.Core.Path.{◌≡◌, refl, ap, ◌∙◌}
+use mathlib.Core.Path.{◌≡◌}
 use mathlib.Core.List.{List}
-use Prim.Native.Nat.{ℕ, ◌+◌, ◌-◌, ◌^◌, ◌≤◌, ◌<◌}
-use native.Mathlib.Omega.{arith}
-use lib.ListN.{length, get_or, set, length-set}
-use lib.Seq.{get_or-set_same, get_or-set_other}
-use borrow.Author.Count.{below_more}
+use Prim.Native.Nat.{ℕ, ◌-◌, ◌≤◌, ◌<◌}
+use lib.ListN.{length, get_or}
 use Rattle.wires.specs.Wires.{wire}
-use Rattle.wires.proofs.Digits.{wire-not}
 use Rattle.faults.proofs.turn.Given as goal
 
 pub record Inv (end i : ℕ) (s t : List ℕ) : Type 0 where

@@ -1,12 +1,9 @@
 -- `grid::double` meets its contract. The loop's invariant: the first `size` entries are as they were, and the next `i` are these with `step` added.
 -- The measure is what is left. Assumes nothing.
-use mathlib.Core.Path.{◌≡◌, refl, ◌∙◌, ap}
+use mathlib.Core.Path.{◌≡◌}
 use mathlib.Core.List.{List}
 use Prim.Native.Nat.{ℕ, ◌+◌, ◌-◌, ◌≤◌, ◌<◌}
-use native.Mathlib.Omega.{arith}
-use lib.ListN.{length, get_or, set, length-set}
-use lib.Seq.{get_or-set_same, get_or-set_other}
-use borrow.Author.Count.{below_more}
+use lib.ListN.{length, get_or}
 use Rattle.grid.proofs.double.Given as goal
 
 pub record Inv (size step i : ℕ) (s t : List ℕ) : Type 0 where

@@ -142,7 +142,7 @@ loop-p-smaller c = omega arith
 
 pub loop-p-preserved : goal.loop-p-preserved
 loop-p-preserved c = elim c.if-seen-p-eq1.branch [
-  then-seen-p-eq1 w ↦ turn_on _ _ _ _ _ _ _ c.loop-p.invariant (omega arith) _ _ _ w.rows-is w.if-seen-p-eq1.true w.double.ensures w.weight-is
+  | then-seen-p-eq1 w ↦ turn_on _ _ _ _ _ _ _ c.loop-p.invariant (omega arith) _ _ _ w.rows-is w.if-seen-p-eq1.true w.double.ensures w.weight-is
   | else-seen-p-eq1 w ↦ turn-off _ _ _ _ _ _ _ c.loop-p.invariant (omega arith) _ _ _ w.rows-is w.if-seen-p-eq1.false w.double-else-seen-p-eq1.ensures w.weight-is
 ]
 

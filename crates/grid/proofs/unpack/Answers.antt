@@ -1,12 +1,11 @@
 -- `grid::unpack` meets its contract, by its invariant. Assumes nothing.
-use mathlib.Core.Path.{◌≡◌, refl, ap, ◌∙◌, subst⁻¹}
+use mathlib.Core.Path.{refl, ap, ◌∙◌, subst⁻¹}
 use mathlib.Core.List.{List}
-use Prim.Native.Nat.{ℕ, ◌+◌, ◌-◌, ◌*◌, ◌/◌, ◌%◌, ◌^◌, ◌≤◌, ◌<◌}
+use Prim.Native.Nat.{ℕ, ◌+◌, ◌*◌, ◌/◌, ◌%◌, ◌^◌, ◌<◌}
 use native.Mathlib.Omega.{arith}
 use lib.ListN.{length, get_or, set, length-set}
 use lib.Seq.{get_or-set_same, get_or-set_other}
 use borrow.Author.Count.{below_more}
-use Rattle.faults.specs.Table.{bit as digit}
 use Rattle.grid.specs.Grid.{bit}
 use Rattle.grid.proofs.Fours.{four-at}
 use Rattle.grid.proofs.unpack.Invariants.{Taken, Inv}

@@ -2,7 +2,6 @@
 use mathlib.Core.Path.{ap, ◌∙◌}
 use mathlib.Core.List.{◌++◌}
 use native.Mathlib.Omega.{arith}
-use borrow.Author.Rules.{rules}
 use lib.ListN.{length-append}
 use Rattle.steps.specs.Outcome.{success}
 use Rattle.steps.proofs.Runs.{joined}

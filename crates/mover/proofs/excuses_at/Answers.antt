@@ -1,5 +1,4 @@
 -- `mover::excuses_at` meets its contract: in form one the reader ends there, or stops. Assumes nothing.
-use borrow.Author.Rules.{rules}
 use Rattle.sheet.proofs.Jobs.{job-accepted, job-refused}
 use Rattle.mover.proofs.Front.{told-end, told-fault}
 use Rattle.mover.proofs.excuses_at.Goals as goal

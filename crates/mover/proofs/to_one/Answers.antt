@@ -1,7 +1,6 @@
 -- `mover::to_one` meets its contract: the sheet is refused, has excuses, or is written without its last section. Assumes nothing.
 use mathlib.Core.Path.{ap, ◌∙◌}
 use native.Mathlib.Omega.{arith}
-use borrow.Author.Rules.{rules}
 use Rattle.steps.specs.Outcome.{refusal}
 use Rattle.sheet.specs.declared.JobHead.{JobHead}
 use Rattle.sheet.proofs.Jobs.{job-accepted, job-refused}

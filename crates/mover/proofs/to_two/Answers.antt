@@ -1,5 +1,4 @@
 -- `mover::to_two` meets its contract: the sheet is refused, or written with no excuses. Assumes nothing.
-use borrow.Author.Rules.{rules}
 use Rattle.sheet.proofs.Jobs.{job-accepted, job-refused}
 use Rattle.sheet.proofs.Length.{accepted-short}
 use Rattle.mover.proofs.Ends.{two-refused, two-taken}

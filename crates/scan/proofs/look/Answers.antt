@@ -1,6 +1,5 @@
 -- `scan::look` meets its contract: where the test finds nothing the look leaves everything, and else the two claims are offered.
 -- Assumes nothing.
-use Rattle.std.proofs.Common.{rules}
 use borrow.Author.Tests.{not-true}
 use Rattle.scan.proofs.New.{looked-none}
 use Rattle.scan.proofs.look.Goals as goal

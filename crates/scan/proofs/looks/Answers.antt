@@ -1,12 +1,11 @@
 -- `scan::looks` meets its contract, by its invariant. Assumes nothing.
-use Rattle.std.proofs.Common.{◌≡◌, ◌+◌, ◌-◌, ⊎_elim, arith, rules, eqb-true}
+use Rattle.std.proofs.Common.{◌≡◌, ◌+◌, ◌-◌, arith, eqb-true}
 use borrow.Author.Tests.{eqb-false, not-true, not-false}
 use Rattle.wires.specs.Wires.{placed}
-use Rattle.grid.specs.Grid.{Grid, grid}
-use Rattle.scan.specs.Reach.{store}
+use Rattle.grid.specs.Grid.{grid}
 use Rattle.scan.proofs.Sizes.{few-combinations}
 use Rattle.scan.proofs.Aims.{to-a, to-b}
-use Rattle.scan.proofs.Scan.{Scan, left, own, scan-start, scan-within, scan-ask, scan-turn, scan-less, scan-done, scan-as}
+use Rattle.scan.proofs.Scan.{own, scan-start, scan-within, scan-ask, scan-turn, scan-less, scan-done, scan-as}
 use Rattle.scan.proofs.looks.Goals as goal
 use Rattle.scan.proofs.looks.Goals.{After-next_part-part, then-own-shape, else-own-shape}
 
@@ -44,7 +43,7 @@ loop-more-smaller c = scan-less c.requires c.loop-more.invariant c.loop-more-tes
 
 pub loop-more-preserved : goal.loop-more-preserved
 loop-more-preserved c = elim c.if-own-shape.branch [
-  then-own-shape w ↦ scan-as (record { reached = w.reached-is; queue = w.queue-is; from = w.from-is; by = w.by-is; end = w.last-is }) (scan-turn c.requires c.loop-more.invariant c.loop-more-test.true (next-is c) (λ h. eqb-false _ _ (not-true _ h)) (λ h. eqb-true _ _ (not-false _ h)) (to-b (grid c.args.shape c.args.row_a.now c.args.row_b.now c.args.faults.now) c.args.claim.0 c.side_of-own.ensures c.requires.sound w.if-own-shape.true) w.look-last.ensures)
+  | then-own-shape w ↦ scan-as (record { reached = w.reached-is; queue = w.queue-is; from = w.from-is; by = w.by-is; end = w.last-is }) (scan-turn c.requires c.loop-more.invariant c.loop-more-test.true (next-is c) (λ h. eqb-false _ _ (not-true _ h)) (λ h. eqb-true _ _ (not-false _ h)) (to-b (grid c.args.shape c.args.row_a.now c.args.row_b.now c.args.faults.now) c.args.claim.0 c.side_of-own.ensures c.requires.sound w.if-own-shape.true) w.look-last.ensures)
   | else-own-shape w ↦ scan-as (record { reached = w.reached-is; queue = w.queue-is; from = w.from-is; by = w.by-is; end = w.last-is }) (scan-turn c.requires c.loop-more.invariant c.loop-more-test.true (next-is c) (λ h. eqb-false _ _ (not-true _ h)) (λ h. eqb-true _ _ (not-false _ h)) (to-a (grid c.args.shape c.args.row_a.now c.args.row_b.now c.args.faults.now) c.args.claim.0 c.side_of-own.ensures w.if-own-shape.false) w.look-last-else-own-shape.ensures)
 ]
 

@@ -1,14 +1,9 @@
 -- `scan::looks` meets its contract. The invariant of its loop is `Scan`: the combinations that show the row, up to the part at hand, have been looked at.
 -- The measure is how many parts are left.
 -- Assumes nothing.
-use Rattle.std.proofs.Common.{◌≡◌, ◌+◌, ◌-◌, ⊎_elim, arith, rules, eqb-true}
-use borrow.Author.Tests.{eqb-false, not-true, not-false}
-use Rattle.wires.specs.Wires.{placed}
-use Rattle.grid.specs.Grid.{Grid, grid}
+use Rattle.grid.specs.Grid.{grid}
 use Rattle.scan.specs.Reach.{store}
-use Rattle.scan.proofs.Sizes.{few-combinations}
-use Rattle.scan.proofs.Aims.{to-a, to-b}
-use Rattle.scan.proofs.Scan.{Scan, left, own, scan-start, scan-within, scan-ask, scan-turn, scan-less, scan-done, scan-as}
+use Rattle.scan.proofs.Scan.{Scan, left}
 use Rattle.scan.proofs.looks.Given as goal
 
 abbrev pub invariant-loop-more : goal.invariant-loop-more

@@ -1,6 +1,6 @@
 -- `scan::offer` meets its contract: it returns at once where the bit is not set or the claim is marked, and otherwise its four stores are those that the contract names.
 -- Assumes nothing.
-use Rattle.std.proofs.Common.{sym, refl, ◌∙◌, inl, inr, rules}
+use Rattle.std.proofs.Common.{sym, refl, ◌∙◌, inl, inr}
 use Rattle.scan.proofs.offer.Goals as goal
 
 pub returns-then-bit_of-ne1 : goal.returns-then-bit_of-ne1

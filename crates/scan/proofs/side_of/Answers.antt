@@ -1,5 +1,5 @@
 -- `scan::side_of` meets its contract: each return is the side of one of the two cells. Assumes nothing.
-use Rattle.std.proofs.Common.{sym, arith, rules}
+use Rattle.std.proofs.Common.{sym, arith}
 use Rattle.scan.proofs.Aims.{of-a, of-b}
 use Rattle.scan.proofs.side_of.Goals as goal
 

@@ -1,5 +1,5 @@
 -- `scan::some_new` meets its contract, by the laws of `proofs/New.antt`. Assumes nothing.
-use Rattle.std.proofs.Common.{◌∙◌, rules, eqb-true}
+use Rattle.std.proofs.Common.{◌∙◌, eqb-true}
 use borrow.Author.Tests.{not-false}
 use Rattle.scan.proofs.New.{known-base, known_next}
 use Rattle.scan.proofs.some_new.Goals as goal

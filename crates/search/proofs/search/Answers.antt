@@ -1,11 +1,7 @@
 -- `search::search` meets its contract, by its invariant. Assumes nothing.
 use mathlib.Core.Path.{sym, ◌∙◌}
-use Prim.Native.Nat.{◌-◌}
 use native.Mathlib.Omega.{arith}
-use Rattle.grid.specs.Grid.{grid}
-use Rattle.scan.specs.Reach.{store}
-use Rattle.search.proofs.Turns.{Searching, search-starts, search-asks, search-turns, search-fails, search-ends}
-use borrow.Author.Rules.{rules}
+use Rattle.search.proofs.Turns.{search-starts, search-asks, search-turns, search-fails, search-ends}
 use Rattle.search.proofs.search.Goals as goal
 
 pub overflow_add-rows : goal.overflow_add-rows

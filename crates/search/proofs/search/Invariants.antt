@@ -1,12 +1,9 @@
 -- `search::search` meets its contract. The invariant is `Searching`: all rows below `row` are settled. The measure is what is left of the rows.
 -- Assumes nothing.
-use mathlib.Core.Path.{sym, ◌∙◌}
 use Prim.Native.Nat.{◌-◌}
-use native.Mathlib.Omega.{arith}
 use Rattle.grid.specs.Grid.{grid}
 use Rattle.scan.specs.Reach.{store}
-use Rattle.search.proofs.Turns.{Searching, search-starts, search-asks, search-turns, search-fails, search-ends}
-use borrow.Author.Rules.{rules}
+use Rattle.search.proofs.Turns.{Searching}
 use Rattle.search.proofs.search.Given as goal
 
 abbrev pub invariant-loop-row : goal.invariant-loop-row

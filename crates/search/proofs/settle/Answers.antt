@@ -2,7 +2,6 @@
 -- Assumes nothing.
 use native.Mathlib.Omega.{arith}
 use Rattle.search.proofs.Turns.{row_settled, first-asks, first-settles, second-asks, second-settles}
-use borrow.Author.Rules.{rules}
 use Rattle.search.proofs.settle.Goals as goal
 
 pub returns-then-state-row-ne2 : goal.returns-then-state-row-ne2

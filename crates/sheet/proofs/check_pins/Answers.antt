@@ -1,17 +1,11 @@
 -- `sheet::check_pins` meets its contract, by its invariant. Assumes nothing.
-use mathlib.Core.Path.{◌≡◌, refl, sym, ap, ◌∙◌}
+use mathlib.Core.Path.{refl, sym, ap, ◌∙◌}
 use native.Mathlib.Omega.{arith}
-use Rattle.steps.specs.Step.{next, got}
 use Rattle.steps.specs.Found.{as_read}
 use Rattle.sheet.specs.JobFound.{pins_pass}
 use Rattle.steps.proofs.Steps.{found, faulty}
 use Rattle.steps.proofs.Entries.{entry-bounds, entry-byte, entry_next, entries-go, entries-stop, entries_none}
 use borrow.Author.Rules.{rules}
-use Prim.Native.Nat.{◌≤◌}
-use mathlib.Core.Path.{◌≡◌}
-use Rattle.steps.specs.Step.{next, got}
-use Rattle.steps.specs.Bytes.{entries}
-use Rattle.sheet.specs.JobSheet.{pin_limit}
 use Rattle.sheet.specs.JobFound.{pins_pass}
 use Rattle.sheet.proofs.check_pins.Goals as goal
 

@@ -1,12 +1,7 @@
 -- `sheet::check_pins` meets its contract. The invariant: the whole is what is left of the pins, from here on. The measure is the count of what is left. Assumes nothing.
-use mathlib.Core.Path.{◌≡◌, refl, sym, ap, ◌∙◌}
-use native.Mathlib.Omega.{arith}
+use mathlib.Core.Path.{◌≡◌}
 use Rattle.steps.specs.Step.{next, got}
-use Rattle.steps.specs.Found.{as_read}
 use Rattle.sheet.specs.JobFound.{pins_pass}
-use Rattle.steps.proofs.Steps.{found, faulty}
-use Rattle.steps.proofs.Entries.{entry-bounds, entry-byte, entry_next, entries-go, entries-stop, entries_none}
-use borrow.Author.Rules.{rules}
 use Prim.Native.Nat.{◌≤◌}
 use mathlib.Core.Path.{◌≡◌}
 use Rattle.steps.specs.Step.{next, got}

@@ -1,7 +1,6 @@
 -- `sheet::read_counted_set` meets its contract. Assumes nothing.
 use Rattle.sheet.specs.JobSheet.{counted_mask}
 use Rattle.steps.proofs.Steps.{stop, go_on}
-use borrow.Author.Rules.{rules}
 use Rattle.sheet.proofs.read_counted_set.Goals as goal
 
 pub returns-in_default : goal.returns-in_default

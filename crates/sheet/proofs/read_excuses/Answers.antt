@@ -1,5 +1,4 @@
 -- `sheet::read_excuses` meets its contract: form one has none; in form two their count was refused, or found and then they. Assumes nothing.
-use borrow.Author.Rules.{rules}
 use native.Mathlib.Omega.{arith}
 use Rattle.steps.proofs.Steps.{found}
 use Rattle.sheet.proofs.Heads.{word-count-bounds}

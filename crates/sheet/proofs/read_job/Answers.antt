@@ -1,6 +1,6 @@
 -- `sheet::read_job` meets its contract: each step of the chain was refused, and the sheet with it, or found, and the next step was taken where it ended.
 -- Assumes nothing.
-use Rattle.std.proofs.Common.{◌≡◌, ◌∙◌, ap, ap₂, sym, refl, arith, List, ℕ, Bor, ◌≤◌, length}
+use Rattle.std.proofs.Common.{◌≡◌, ◌∙◌, ap, ap₂, sym, arith, List, ℕ, Bor}
 use Rattle.std.proofs.lemmas.List.Edits.{sets}
 use Rattle.steps.specs.Step.{Step, got, refused}
 use Rattle.steps.specs.Bytes.{count, word_count, end}
@@ -12,11 +12,11 @@ use Rattle.sheet.specs.declared.Form.{Form}
 use Rattle.sheet.specs.declared.Reader.{Reader}
 use Rattle.sheet.specs.declared.JobRead.{JobRead}
 use Rattle.sheet.specs.declared.JobRead.TheVariants as job_read
-use Rattle.sheet.specs.Job.{Head, rejected}
+use Rattle.sheet.specs.Job.{rejected}
 use Rattle.sheet.specs.JobSheet.{counted_mask, head, read_job, wire_limit, seen_limit, rule_limit}
-use Rattle.sheet.specs.JobFound.{pins_pass, terms_pass, as_job, kept_terms, kept_masks}
+use Rattle.sheet.specs.JobFound.{pins_pass, terms_pass, as_job, kept_masks}
 use Rattle.steps.proofs.Steps.{found, faulty}
-use Rattle.sheet.proofs.Heads.{count-bounds, word-count-bounds, pins_of, stop₁, stop₂, stop₃, stop₄, stop₅, all as all-head}
+use Rattle.sheet.proofs.Heads.{count-bounds, word-count-bounds, stop₁, stop₂, stop₃, stop₄, stop₅, all as all-head}
 use Rattle.sheet.proofs.Jobs.{no-head, none_kept, some-kept, no-terms, no_end, all}
 use Rattle.sheet.proofs.read_job.Goals as goal
 

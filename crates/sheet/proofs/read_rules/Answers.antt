@@ -1,14 +1,11 @@
 -- `sheet::read_rules` meets its contract, by its invariant. Assumes nothing.
 use borrow.Author.Rules.{rules}
-use Prim.Native.Nat.{◌+◌, ◌-◌, ◌≤◌}
-use mathlib.Core.Path.{◌≡◌, sym, ap, ◌∙◌}
+use mathlib.Core.Path.{sym, ap, ◌∙◌}
 use native.Mathlib.Numerals.{add-one-le}
 use native.Mathlib.Omega.{arith}
-use lib.Seq.{sets}
 use Rattle.steps.specs.Found.{as_read}
-use Rattle.sheet.specs.JobFound.{rules_pass, kept}
 use Rattle.steps.proofs.Steps.{found, faulty}
-use Rattle.sheet.proofs.Rules.{rules_from, rules-start, rules-go, rules-stop, rules-done, kept-start, kept-go, kept-stop, kept-done}
+use Rattle.sheet.proofs.Rules.{rules-start, rules-go, rules-stop, rules-done, kept-start, kept-go, kept-stop, kept-done}
 use Rattle.sheet.proofs.read_rules.Goals as goal
 
 pub loop-i-init : goal.loop-i-init
@@ -22,9 +19,9 @@ returns-in_default c = let inv = c.loop-i.invariant in
     let more = c.loop-i-test.true in
     let is = faulty _ _ _ c.read_counted_set-rule.ensures c.in_default.is in
     record {
-  value = c.in_default.is ∙ ap as_read (sym (inv.1 ∙ rules-stop _ _ _ _ _ more _ is));
-  masks_after = sym (inv.2 ∙ kept-stop _ _ _ _ _ more _ _ _ is);
-}
+      value = c.in_default.is ∙ ap as_read (sym (inv.1 ∙ rules-stop _ _ _ _ _ more _ is));
+      masks_after = sym (inv.2 ∙ kept-stop _ _ _ _ _ more _ _ _ is);
+    }
 
 pub overflow_add-masks : goal.overflow_add-masks
 overflow_add-masks c = omega arith
@@ -53,6 +50,6 @@ loop-i-preserved c = let inv = c.loop-i.invariant in
 pub returns : goal.returns
 returns c = let inv = c.loop-i.invariant in
     record {
-  value = ap as_read (sym (inv.1 ∙ rules-done _ _ _ _ _ c.loop-i-test.false));
-  masks_after = sym (inv.2 ∙ kept-done _ _ _ _ _ c.loop-i-test.false _ _);
-}
+      value = ap as_read (sym (inv.1 ∙ rules-done _ _ _ _ _ c.loop-i-test.false));
+      masks_after = sym (inv.2 ∙ kept-done _ _ _ _ _ c.loop-i-test.false _ _);
+    }

@@ -1,14 +1,9 @@
 -- `sheet::read_rules` meets its contract. The invariant: the whole is what is left of the rules, from here on, and the lent array at the end is the array as it stands with what is left stored from first + i on. The measure is the count of what is left. Assumes nothing.
-use borrow.Author.Rules.{rules}
 use Prim.Native.Nat.{◌+◌, ◌-◌, ◌≤◌}
-use mathlib.Core.Path.{◌≡◌, sym, ap, ◌∙◌}
-use native.Mathlib.Numerals.{add-one-le}
-use native.Mathlib.Omega.{arith}
+use mathlib.Core.Path.{◌≡◌}
 use lib.Seq.{sets}
-use Rattle.steps.specs.Found.{as_read}
 use Rattle.sheet.specs.JobFound.{rules_pass, kept}
-use Rattle.steps.proofs.Steps.{found, faulty}
-use Rattle.sheet.proofs.Rules.{rules_from, rules-start, rules-go, rules-stop, rules-done, kept-start, kept-go, kept-stop, kept-done}
+use Rattle.sheet.proofs.Rules.{rules_from}
 use Rattle.sheet.proofs.read_rules.Given as goal
 
 abbrev pub invariant-loop-i : goal.invariant-loop-i

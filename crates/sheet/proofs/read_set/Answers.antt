@@ -1,13 +1,11 @@
 -- `sheet::read_set` meets its contract, by its invariant. Assumes nothing.
 use borrow.Author.Rules.{rules}
-use Prim.Native.Nat.{◌^◌, ◌≤◌, ◌<◌}
-use mathlib.Core.Path.{◌≡◌, sym, ap, ◌∙◌}
+use mathlib.Core.Path.{sym, ap, ◌∙◌}
 use native.Mathlib.Omega.{arith}
-use Rattle.sheet.specs.JobSheet.{mask}
 use Rattle.steps.specs.Found.{as_read}
 use Rattle.steps.proofs.Steps.{found, faulty}
 use Rattle.steps.proofs.Entries.{entry-bounds, entry-byte, entry_next, entries-stop}
-use Rattle.sheet.proofs.Masks.{mask_from, mask_start, mask-turn, mask_done}
+use Rattle.sheet.proofs.Masks.{mask_start, mask-turn, mask_done}
 use Rattle.sheet.proofs.read_set.Goals as goal
 
 pub loop-left-init : goal.loop-left-init

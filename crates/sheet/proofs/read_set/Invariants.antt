@@ -1,13 +1,8 @@
 -- `sheet::read_set` meets its contract. The invariant: the bits so far are below `least`, and the whole is the bits so far and those of what is left, from here on (`mask_from`). The measure is the count of what is left. Assumes nothing.
-use borrow.Author.Rules.{rules}
 use Prim.Native.Nat.{◌^◌, ◌≤◌, ◌<◌}
-use mathlib.Core.Path.{◌≡◌, sym, ap, ◌∙◌}
-use native.Mathlib.Omega.{arith}
+use mathlib.Core.Path.{◌≡◌}
 use Rattle.sheet.specs.JobSheet.{mask}
-use Rattle.steps.specs.Found.{as_read}
-use Rattle.steps.proofs.Steps.{found, faulty}
-use Rattle.steps.proofs.Entries.{entry-bounds, entry-byte, entry_next, entries-stop}
-use Rattle.sheet.proofs.Masks.{mask_from, mask_start, mask-turn, mask_done}
+use Rattle.sheet.proofs.Masks.{mask_from}
 use Rattle.sheet.proofs.read_set.Given as goal
 
 abbrev pub invariant-loop-left : goal.invariant-loop-left

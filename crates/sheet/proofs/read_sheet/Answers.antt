@@ -1,6 +1,5 @@
 -- `sheet::read_sheet` meets its contract: the sheet was accepted or refused, and the outcome says so. Assumes nothing.
 use mathlib.Core.Path.{◌∙◌}
-use borrow.Author.Rules.{rules}
 use Rattle.sheet.proofs.Jobs.{read-accepted, read-refused}
 use Rattle.sheet.proofs.read_sheet.Goals as goal
 

@@ -1,5 +1,4 @@
 -- `sheet::read_terms` meets its contract: the rules were refused, or found and then the excuses. Assumes nothing.
-use borrow.Author.Rules.{rules}
 use Rattle.sheet.proofs.Excuses.{terms-stop, terms-go}
 use Rattle.sheet.proofs.read_terms.Goals as goal
 

@@ -1,7 +1,6 @@
 -- `solver::solve` meets its contract: a job is refused, or its board is solved where there is room. Assumes nothing.
 use mathlib.Core.Path.{refl, sym, ap, ◌∙◌}
 use native.Mathlib.Omega.{arith}
-use borrow.Author.Rules.{rules}
 use lib.ListN.{length, replicate}
 use Rattle.sheet.proofs.Jobs.{job-refused}
 use Rattle.board.proofs.Accepting.{stored-length, taken}
@@ -19,9 +18,9 @@ slice_bounds-solve_board-end c = sym (ap length c.read_job-read.ensures.masks_af
 pub solve_board-requires : goal.solve_board-requires
 solve_board-requires c = let t = taken _ _ (replicate 320 0) refl _ _ _ c.read_job-read.ensures.value c.in-Accepted.is c.read_job-read.ensures.masks_after in
     record {
-  sized = t.sized;
-  longest_in_bounds = omega arith;
-}
+      sized = t.sized;
+      longest_in_bounds = omega arith;
+    }
 
 pub returns-else-answer-lt-LONGEST : goal.returns-else-answer-lt-LONGEST
 returns-else-answer-lt-LONGEST c = let t = taken _ _ (replicate 320 0) refl _ _ _ c.read_job-read.ensures.value c.in-Accepted.is c.read_job-read.ensures.masks_after in

@@ -1,7 +1,6 @@
 -- `solver::solve_board` meets its contract: the arrays are filled with the board of the job, and solved. Assumes nothing.
 use mathlib.Core.Path.{refl}
 use native.Mathlib.Omega.{arith}
-use borrow.Author.Rules.{rules}
 use lib.ListN.{replicate}
 use Rattle.solver.proofs.Boards.{unpack-room, asks-a, asks-b, strikes, sound, board-solved}
 use Rattle.solver.proofs.solve_board.Goals as goal
@@ -21,7 +20,7 @@ fill_rows-requires-2 c = asks-b c.requires.sized (replicate 4096 0) refl
 pub solve_grid-requires : goal.solve_grid-requires
 solve_grid-requires c = record {
   sound = sound c.requires.sized (replicate 4096 0) refl _ _ _ _ _ _ _ c.row_count.ensures c.row_count-2.ensures
-          c.fill_faults.ensures c.strike.ensures c.unpack.ensures c.fill_rows.ensures c.fill_rows-2.ensures;
+      c.fill_faults.ensures c.strike.ensures c.unpack.ensures c.fill_rows.ensures c.fill_rows-2.ensures;
   longest_in_bounds = omega arith;
 }
 

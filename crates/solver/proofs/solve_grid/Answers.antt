@@ -1,7 +1,6 @@
 -- `solver::solve_grid` meets its contract: what the search found is written as a sheet. Assumes nothing.
 use mathlib.Core.Path.{◌∙◌}
 use Prim.Native.Nat.{ℕ}
-use borrow.Author.Rules.{rules}
 use lib.ListN.{length-replicate}
 use Rattle.solver.proofs.Grids.{blank-length, searches, state-fits, state-length, tables-room, tables-solved}
 use Rattle.solver.proofs.Grids.{walk-fits, walk-length, walk-room, walk-solved}

@@ -1,6 +1,5 @@
 -- `solver::write_tables` meets its contract: three pieces make the sheet of two tables. Assumes nothing.
 use mathlib.Core.Path.{sym}
-use borrow.Author.Rules.{rules}
 use Rattle.solver.proofs.Writing.{front_length, first-room, second-room, third-room, state-wrote}
 use Rattle.solver.proofs.write_tables.Goals as goal
 

@@ -1,5 +1,4 @@
 -- `solver::write_walk` meets its contract: four pieces make the sheet of a walk. Assumes nothing.
-use borrow.Author.Rules.{rules}
 use Rattle.solver.proofs.Writing.{walk-wrote}
 use Rattle.solver.proofs.write_walk.Goals as goal
 

@@ -1,10 +1,8 @@
 -- `spread::clear` meets its contract, by its invariant. Assumes nothing.
-use Prim.Native.Nat.{◌-◌}
 use mathlib.Core.Path.{refl}
 use native.Mathlib.Nat.{le_antisymm}
 use native.Mathlib.Omega.{arith}
-use borrow.Author.Rules.{rules}
-use Rattle.spread.proofs.Front.{Clears, clears-turn}
+use Rattle.spread.proofs.Front.{clears-turn}
 use Rattle.spread.proofs.clear.Goals as goal
 
 pub loop-i-init : goal.loop-i-init

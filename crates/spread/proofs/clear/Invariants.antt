@@ -1,11 +1,7 @@
 -- `spread::clear` meets its contract. The invariant of its loop: the first i marks are 0, and the rest is as it was. The measure is what is left of n.
 -- Assumes nothing.
 use Prim.Native.Nat.{◌-◌}
-use mathlib.Core.Path.{refl}
-use native.Mathlib.Nat.{le_antisymm}
-use native.Mathlib.Omega.{arith}
-use borrow.Author.Rules.{rules}
-use Rattle.spread.proofs.Front.{Clears, clears-turn}
+use Rattle.spread.proofs.Front.{Clears}
 use Rattle.spread.proofs.clear.Given as goal
 
 abbrev pub invariant-loop-i : goal.invariant-loop-i

@@ -1,12 +1,9 @@
 -- `spread::spread` meets its contract, by its invariant. Assumes nothing.
-use Prim.Native.Nat.{◌+◌, ◌*◌, ◌-◌, ◌<◌}
+use Prim.Native.Nat.{◌+◌, ◌*◌, ◌<◌}
 use native.Mathlib.Omega.{arith}
 use mathlib.Core.Path.{◌∙◌}
 use lib.ListN.{length-set}
-use borrow.Author.Rules.{rules}
-use Rattle.grid.specs.Grid.{grid}
-use Rattle.scan.specs.Reach.{store}
-use Rattle.spread.proofs.Front.{Front, front-start, front-ask, front-turn, front_below, front-done}
+use Rattle.spread.proofs.Front.{front-start, front-ask, front-turn, front_below, front-done}
 use Rattle.spread.proofs.spread.Goals as goal
 use Rattle.spread.proofs.spread.Goals.{In-loop-head}
 

@@ -1,13 +1,9 @@
 -- `spread::spread` meets its contract. The invariant of its loop is `Front`: the queue is sound, and closed up to `head`. The measure is the number of claims less `head`, since `head` stays below the queue's end, which is the number of marks.
 -- Assumes nothing.
-use Prim.Native.Nat.{◌+◌, ◌*◌, ◌-◌, ◌<◌}
-use native.Mathlib.Omega.{arith}
-use mathlib.Core.Path.{◌∙◌}
-use lib.ListN.{length-set}
-use borrow.Author.Rules.{rules}
+use Prim.Native.Nat.{◌-◌}
 use Rattle.grid.specs.Grid.{grid}
 use Rattle.scan.specs.Reach.{store}
-use Rattle.spread.proofs.Front.{Front, front-start, front-ask, front-turn, front_below, front-done}
+use Rattle.spread.proofs.Front.{Front}
 use Rattle.spread.proofs.spread.Given as goal
 
 abbrev pub invariant-loop-head : goal.invariant-loop-head

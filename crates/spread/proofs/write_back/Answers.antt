@@ -1,8 +1,6 @@
 -- `spread::write_back` meets its contract, by its invariant. Assumes nothing.
-use Prim.Native.Nat.{◌+◌, ◌*◌, ◌-◌}
 use native.Mathlib.Omega.{arith}
-use borrow.Author.Rules.{rules}
-use Rattle.spread.proofs.Back.{Back, back_start, back_done, back_from, back_by, back-room, back-fall, back-turn}
+use Rattle.spread.proofs.Back.{back_start, back_done, back_from, back_by, back-room, back-fall, back-turn}
 use Rattle.spread.proofs.write_back.Goals as goal
 
 pub loop-c-init : goal.loop-c-init

@@ -1,9 +1,7 @@
 -- `spread::write_back` meets its contract. The invariant of its loop is `Back`: the entries so far, and the claim's place in the queue, which falls with each turn. The measure is the room for the entries that are left.
 -- Assumes nothing.
 use Prim.Native.Nat.{◌+◌, ◌*◌, ◌-◌}
-use native.Mathlib.Omega.{arith}
-use borrow.Author.Rules.{rules}
-use Rattle.spread.proofs.Back.{Back, back_start, back_done, back_from, back_by, back-room, back-fall, back-turn}
+use Rattle.spread.proofs.Back.{Back}
 use Rattle.spread.proofs.write_back.Given as goal
 
 abbrev pub invariant-loop-c : goal.invariant-loop-c

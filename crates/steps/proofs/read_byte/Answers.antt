@@ -1,5 +1,4 @@
 -- `steps::read_byte` meets its contract: the test says which case of `byte` holds. Assumes nothing.
-use borrow.Author.Rules.{rules}
 use borrow.Author.Tests.{lt-ltb, le-ltb}
 use native.Mathlib.Omega.{arith}
 use Rattle.steps.specs.Bytes.{byte}

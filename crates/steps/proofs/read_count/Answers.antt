@@ -1,6 +1,5 @@
 -- `steps::read_count` meets its contract. Assumes nothing.
 use mathlib.Core.Path.{ap, ◌∙◌}
-use borrow.Author.Rules.{rules}
 use Rattle.steps.specs.Found.{within_of}
 use Rattle.steps.proofs.Steps.{counted}
 use Rattle.steps.proofs.read_count.Goals as goal

@@ -2,7 +2,6 @@
 use borrow.Author.Tests.{lt-ltb, le-ltb, le-leb, lt-leb}
 use Rattle.steps.proofs.Steps.{stop, go_on}
 use Rattle.steps.specs.Bytes.{entry, rising}
-use borrow.Author.Rules.{rules}
 use Rattle.steps.proofs.read_entry.Goals as goal
 
 pub returns-in_default : goal.returns-in_default

@@ -3,7 +3,6 @@ use native.Mathlib.Omega.{arith}
 use Rattle.steps.proofs.Steps.{found, stop, go_on}
 use Rattle.steps.specs.Bytes.{word}
 use Rattle.steps.proofs.Entries.{byte-is}
-use borrow.Author.Rules.{rules}
 use Rattle.steps.proofs.read_word.Goals as goal
 
 pub returns-in_default : goal.returns-in_default

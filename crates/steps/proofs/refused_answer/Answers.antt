@@ -1,5 +1,4 @@
 -- `steps::refused_answer` meets its contract. Assumes nothing.
-use borrow.Author.Rules.{rules}
 use Rattle.steps.proofs.refused_answer.Goals as goal
 
 pub returns : goal.returns

@@ -1,7 +1,6 @@
 -- `steps::why` meets its contract. Assumes nothing.
 use mathlib.Core.Path.{ap, sym}
 use Rattle.steps.specs.Found.{why_of}
-use borrow.Author.Rules.{rules}
 use Rattle.steps.proofs.why.Goals as goal
 
 pub returns-in-Got : goal.returns-in-Got

@@ -1,6 +1,5 @@
 -- `steps::within` meets its contract. Assumes nothing.
 use mathlib.Core.Path.{sym, ap, ◌∙◌}
-use borrow.Author.Rules.{rules}
 use borrow.Author.Tests.{le-leb, lt-leb}
 use Rattle.steps.specs.Found.{within_of}
 use Rattle.steps.proofs.within.Goals as goal

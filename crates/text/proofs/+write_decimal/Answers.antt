@@ -1,5 +1,5 @@
 -- `text::write_decimal` meets its contract: a digit is stored, alone or after those of the tenth. Assumes nothing.
-use Rattle.std.proofs.Common.{◌∙◌, arith, length-set}
+use Rattle.std.proofs.Common.{arith}
 use Rattle.text.proofs.Decimals.{decimal-some, stored_one, stored_more, tenth-room, more-length, more_room}
 use Rattle.text.proofs.+write_decimal.Goals as goal
 

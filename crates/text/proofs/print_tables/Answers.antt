@@ -1,6 +1,5 @@
 -- `text::print_tables` meets its contract: five pieces make the text of the tables. Assumes nothing.
 use native.Mathlib.Omega.{arith}
-use borrow.Author.Rules.{rules}
 use Rattle.text.proofs.Tables.{there, first-asks, second-asks, last-room, tables-printed}
 use Rattle.text.proofs.print_tables.Goals as goal
 

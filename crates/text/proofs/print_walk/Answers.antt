@@ -1,8 +1,6 @@
 -- `text::print_walk` meets its contract, by its invariant. Assumes nothing.
-use Prim.Native.Nat.{◌-◌}
 use native.Mathlib.Omega.{arith}
-use borrow.Author.Rules.{rules}
-use Rattle.text.proofs.Lines.{Lined, lined-start, same-room, lined-turn, line-room, lined-end}
+use Rattle.text.proofs.Lines.{lined-start, same-room, lined-turn, line-room, lined-end}
 use Rattle.text.proofs.print_walk.Goals as goal
 
 pub word_at-count-requires : goal.word_at-count-requires

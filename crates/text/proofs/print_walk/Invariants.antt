@@ -1,8 +1,6 @@
 -- `text::print_walk` meets its contract. The invariant: the whole text is the buffer as it stands with the lines that are left written from here on. The measure is the count of those. Assumes nothing.
 use Prim.Native.Nat.{◌-◌}
-use native.Mathlib.Omega.{arith}
-use borrow.Author.Rules.{rules}
-use Rattle.text.proofs.Lines.{Lined, lined-start, same-room, lined-turn, line-room, lined-end}
+use Rattle.text.proofs.Lines.{Lined}
 use Rattle.text.proofs.print_walk.Given as goal
 
 abbrev pub invariant-loop-i : goal.invariant-loop-i

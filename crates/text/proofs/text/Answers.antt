@@ -1,7 +1,6 @@
 -- `text::text` meets its contract: the solver's answer is printed by its code. Assumes nothing.
 use mathlib.Core.Path.{refl}
 use native.Mathlib.Omega.{arith}
-use borrow.Author.Rules.{rules}
 use Rattle.text.specs.Text.{no_room}
 use Rattle.text.proofs.Ends.{tables-ask, walk-ask, tables-ends, walk_ends, refused-ends}
 use Rattle.text.proofs.text.Goals as goal

@@ -1,7 +1,6 @@
 -- `text::word_at` meets its contract: both places stand in the sheet, and two bytes fit in 16 digits. Assumes nothing.
 use Prim.Native.Nat.{◌+◌}
 use native.Mathlib.Omega.{arith}
-use borrow.Author.Rules.{rules}
 use Rattle.text.proofs.word_at.Goals as goal
 
 pub overflow_cast-result : goal.overflow_cast-result

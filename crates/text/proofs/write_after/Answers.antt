@@ -1,6 +1,5 @@
 -- `text::write_after` meets its contract: a space, and the digits after it. Assumes nothing.
 use mathlib.Core.List.{[], ◌∷◌}
-use borrow.Author.Rules.{rules}
 use Rattle.text.specs.Decimal.{decimal}
 use Rattle.text.proofs.Pieces.{both_stored, next_fits}
 use Rattle.text.proofs.write_after.Goals as goal

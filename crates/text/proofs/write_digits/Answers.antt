@@ -1,12 +1,9 @@
 -- `text::write_digits` meets its contract, by its invariant. Assumes nothing.
 use borrow.Author.Rules.{rules}
 use native.Mathlib.Omega.{arith}
-use Prim.Native.Nat.{◌+◌, ◌-◌, ◌≤◌}
-use mathlib.Core.Path.{◌≡◌, sym, ◌∙◌}
-use lib.ListN.{length, drop, length-set}
-use lib.Seq.{sets}
+use mathlib.Core.Path.{sym, ◌∙◌}
+use lib.ListN.{length-set}
 use native.Mathlib.Nat.{add-zero}
-use Rattle.text.specs.Text.{digits}
 use Rattle.text.proofs.Tables.{digits-turn, digits-done}
 use Rattle.text.proofs.write_digits.Goals as goal
 

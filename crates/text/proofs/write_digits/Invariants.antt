@@ -1,13 +1,9 @@
 -- `text::write_digits` meets its contract. The invariant: the run at the end is the buffer as it stands with the digits that are left stored from here on. The measure is the count of those. Assumes nothing.
-use borrow.Author.Rules.{rules}
-use native.Mathlib.Omega.{arith}
 use Prim.Native.Nat.{◌+◌, ◌-◌, ◌≤◌}
-use mathlib.Core.Path.{◌≡◌, sym, ◌∙◌}
-use lib.ListN.{length, drop, length-set}
+use mathlib.Core.Path.{◌≡◌}
+use lib.ListN.{length, drop}
 use lib.Seq.{sets}
-use native.Mathlib.Nat.{add-zero}
 use Rattle.text.specs.Text.{digits}
-use Rattle.text.proofs.Tables.{digits-turn, digits-done}
 use Rattle.text.proofs.write_digits.Given as goal
 
 abbrev pub invariant-loop-i : goal.invariant-loop-i

@@ -1,6 +1,5 @@
 -- `text::write_first_three` meets its contract: three texts, one after the other. Assumes nothing.
 use mathlib.Core.List.{◌∷◌}
-use borrow.Author.Rules.{rules}
 use Rattle.text.specs.Decimal.{decimal}
 use Rattle.text.proofs.Pieces.{Three, three}
 use Rattle.text.proofs.write_first_three.Goals as goal

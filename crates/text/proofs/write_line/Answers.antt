@@ -1,6 +1,5 @@
 -- `text::write_line` meets its contract: three texts, one after the other. Assumes nothing.
 use mathlib.Core.List.{[], ◌∷◌}
-use borrow.Author.Rules.{rules}
 use Rattle.text.specs.Decimal.{decimal}
 use Rattle.text.proofs.Pieces.{Three, three}
 use Rattle.text.proofs.write_line.Goals as goal

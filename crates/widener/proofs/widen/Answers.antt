@@ -1,6 +1,5 @@
 -- `widener::widen` meets its contract: P is refused, or taken and its rules held for what follows. Assumes nothing.
 use mathlib.Core.Path.{refl, sym, ap, ◌∙◌}
-use borrow.Author.Rules.{rules}
 use lib.ListN.{length, replicate}
 use Rattle.sheet.proofs.Jobs.{job-refused}
 use Rattle.board.proofs.Accepting.{stored-length, taken}

@@ -1,6 +1,5 @@
 -- `widener::widen_both` meets its contract: the checker's outcome, then the other causes of refusal in their order, then the widened sheet. Assumes nothing.
 use mathlib.Core.Path.{sym, ◌∙◌}
-use borrow.Author.Rules.{rules}
 use borrow.Author.Tests.{not-true, not-false}
 use Rattle.widener.proofs.Ends.{ends-walk, ends-checked, wide-asks, ends-asks, ends-room, ends-written}
 use Rattle.widener.proofs.widen_both.Goals as goal

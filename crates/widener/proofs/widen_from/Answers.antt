@@ -1,6 +1,5 @@
 -- `widener::widen_from` meets its contract: Q is refused, or taken and its rules held for what follows. Assumes nothing.
 use mathlib.Core.Path.{refl, sym, ap, ◌∙◌}
-use borrow.Author.Rules.{rules}
 use lib.ListN.{length, replicate}
 use Rattle.sheet.proofs.Jobs.{job-refused}
 use Rattle.board.proofs.Accepting.{stored-length, taken}
@@ -13,9 +12,9 @@ slice_bounds-widen_both-end c = sym (ap length c.read_job-read.ensures.masks_aft
 pub widen_both-requires : goal.widen_both-requires
 widen_both-requires c = let t = taken _ _ (replicate 320 0) refl _ _ _ c.read_job-read.ensures.value c.in-Accepted.is c.read_job-read.ensures.masks_after in
     record {
-  taken = c.requires;
-  taken_2 = (t.job, taken_as t);
-}
+      taken = c.requires;
+      taken_2 = (t.job, taken_as t);
+    }
 
 pub returns-in-Accepted : goal.returns-in-Accepted
 returns-in-Accepted c = let t = taken _ _ (replicate 320 0) refl _ _ _ c.read_job-read.ensures.value c.in-Accepted.is c.read_job-read.ensures.masks_after in

@@ -1,8 +1,6 @@
 -- `widener::widen_table` meets its contract, by its invariant. Assumes nothing.
-use borrow.Author.Rules.{rules}
 use native.Mathlib.Omega.{arith}
-use Prim.Native.Nat.{◌-◌}
-use Rattle.widener.proofs.Tabling.{few-rows, Storing, storing-none, storing-turn, storing-all}
+use Rattle.widener.proofs.Tabling.{few-rows, storing-none, storing-turn, storing-all}
 use Rattle.widener.proofs.widen_table.Goals as goal
 
 pub overflow_cast-rows : goal.overflow_cast-rows

@@ -1,8 +1,6 @@
 -- `widener::widen_table` meets its contract. The invariant, at every number of wires that holds both masks: the rows stored at the end are the buffer as it stands with the rows that are left stored from here on. The measure is the count of those. Assumes nothing.
-use borrow.Author.Rules.{rules}
-use native.Mathlib.Omega.{arith}
 use Prim.Native.Nat.{◌-◌}
-use Rattle.widener.proofs.Tabling.{few-rows, Storing, storing-none, storing-turn, storing-all}
+use Rattle.widener.proofs.Tabling.{Storing}
 use Rattle.widener.proofs.widen_table.Given as goal
 
 abbrev pub invariant-loop-i : goal.invariant-loop-i

@@ -1,5 +1,5 @@
 -- `wires::first_broken` meets its contract, by its invariant. Assumes nothing.
-use Rattle.std.proofs.Common.{◌≡◌, ℕ, ◌+◌, ◌-◌, ◌<◌, ◌≤◌, Bool, true, false, not, ◌↔◌, List, get_or, sym, ◌∙◌, arith, rules}
+use Rattle.std.proofs.Common.{◌≡◌, ℕ, ◌+◌, ◌<◌, ◌≤◌, Bool, true, false, not, ◌↔◌, List, get_or, sym, ◌∙◌, arith}
 use mathlib.Core.Bool.{false≢true}
 use mathlib.Core.Logic.{by_cases}
 use native.Mathlib.Decide.{ℕ_discrete}

@@ -1,10 +1,6 @@
 -- `wires::first_broken` meets its contract. Invariant: each rule before `rule` has a true term. The measure is the rules left. Assumes nothing.
-use Rattle.std.proofs.Common.{◌≡◌, ℕ, ◌+◌, ◌-◌, ◌<◌, ◌≤◌, Bool, true, false, not, ◌↔◌, List, get_or, sym, ◌∙◌, arith, rules}
-use mathlib.Core.Bool.{false≢true}
-use mathlib.Core.Logic.{by_cases}
-use native.Mathlib.Decide.{ℕ_discrete}
-use borrow.Author.Tests.{not-true, not-false}
-use Rattle.wires.specs.Terms.{Meets, FirstBroken}
+use Rattle.std.proofs.Common.{ℕ, ◌-◌, ◌<◌, ◌≤◌, List, get_or}
+use Rattle.wires.specs.Terms.{Meets}
 use Rattle.wires.proofs.first_broken.Given as goal
 
 pub record Inv (rules : List ℕ) (count set rule : ℕ) : Type 0 where

@@ -1,5 +1,5 @@
 -- `wires::next_part` meets its contract, by the law `next-is`. Assumes nothing.
-use Rattle.std.proofs.Common.{◌≡◌, ℕ, ◌+◌, ◌-◌, ◌%◌, ◌^◌, ap, arith, rules}
+use Rattle.std.proofs.Common.{◌≡◌, ℕ, ◌+◌, ◌-◌, ◌%◌, ◌^◌, ap, arith}
 use lib.Bits.{bit_and}
 use Rattle.wires.proofs.Parts.{next-is}
 use Rattle.wires.proofs.next_part.Goals as goal

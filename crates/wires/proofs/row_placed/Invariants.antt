@@ -1,12 +1,8 @@
 -- `wires::row_placed` meets its contract. The loop's invariant: the combination so far lies below the lowest wire that is left, and the digits of the
 -- row that are left, placed at the wires that are left, stand above it. The measure is the mask that is left. Assumes nothing.
-use Rattle.std.proofs.Common.{◌≡◌, ℕ, ◌+◌, ◌*◌, ◌/◌, ◌%◌, ◌^◌, ◌<◌, ◌≤◌, ap, ◌∙◌, pow-suc, arith, pow_pos, pow_mono, shl_exact}
-use lib.Arith.{digits_lt}
-use lib.Bits.{bit_or, or_shifted_r}
+use Rattle.std.proofs.Common.{◌≡◌, ℕ, ◌+◌, ◌^◌, ◌<◌}
 use lib.Count.{count_trailing_zeros}
 use Rattle.wires.specs.Wires.{placed}
-use Rattle.wires.proofs.Rows.{placed-none, placed-any}
-use Rattle.wires.proofs.Lowest.{rest, rest_below, trailing_below, trailing-rest, placed-lowest}
 use Rattle.wires.proofs.row_placed.Given as goal
 
 pub record Inv (seen row left digits a : ℕ) : Type 0 where

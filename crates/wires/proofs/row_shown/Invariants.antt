@@ -1,14 +1,8 @@
 -- `wires::row_shown` meets its contract. The loop's invariant: the row so far has `at` digits, and the rows of the wires that are left stand above it.
 -- The measure is the mask that is left. Assumes nothing.
-use Rattle.std.proofs.Common.{◌≡◌, ℕ, ◌+◌, ◌*◌, ◌/◌, ◌%◌, ◌^◌, ◌<◌, ◌≤◌, ap, ◌∙◌, pow-suc, add-one, arith, shl_exact}
-use mathlib.Core.Path.{subst⁻¹}
-use lib.Arith.{digits_lt}
-use lib.Bits.{bit_and, bit_or, and_mask, or_shifted_r}
-use lib.Count.{ones, ones-le, count_trailing_zeros}
-use Rattle.wires.specs.Wires.{wire, shown}
-use Rattle.wires.proofs.Digits.{wire-lt}
-use Rattle.wires.proofs.Rows.{row_below, shown-none, shown-any}
-use Rattle.wires.proofs.Lowest.{rest, rest_below, trailing_below, ones-rest, shown-lowest}
+use Rattle.std.proofs.Common.{◌≡◌, ℕ, ◌+◌, ◌*◌, ◌^◌, ◌<◌}
+use lib.Count.{ones}
+use Rattle.wires.specs.Wires.{shown}
 use Rattle.wires.proofs.row_shown.Given as goal
 
 pub record Inv (seen a left row at : ℕ) : Type 0 where

@@ -1,5 +1,5 @@
 -- `wires::some_within` meets its contract, by its invariant. Assumes nothing.
-use Rattle.std.proofs.Common.{◌≡◌, ℕ, ◌+◌, ◌-◌, ◌<◌, ◌≤◌, Bool, true, false, List, length, get_or, take, drop, sym, refl, ◌∙◌, arith, rules}
+use Rattle.std.proofs.Common.{◌≡◌, ℕ, ◌+◌, ◌<◌, ◌≤◌, Bool, true, false, List, length, get_or, take, drop, sym, refl, ◌∙◌, arith}
 use Rattle.wires.specs.Terms.{containsb, some_within}
 use Rattle.wires.proofs.Sets.{some_turn, some-found, some_end}
 use Rattle.wires.proofs.some_within.Invariants.{Inv}
@@ -27,9 +27,9 @@ returns-then-contains c = found _ _ _ _ c.loop-i.invariant c.requires (omega ari
 
 pub loop-i-preserved : goal.loop-i-preserved
 loop-i-preserved c = record {
-      within = omega arith;
-      left = step _ _ _ _ c.loop-i.invariant c.requires (omega arith) _ c.contains.ensures c.if-contains.false;
-    }
+  within = omega arith;
+  left = step _ _ _ _ c.loop-i.invariant c.requires (omega arith) _ c.contains.ensures c.if-contains.false;
+}
 
 pub returns : goal.returns
 returns c = ended _ _ _ _ c.loop-i.invariant c.requires (omega arith)

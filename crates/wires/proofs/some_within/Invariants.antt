@@ -1,8 +1,7 @@
 -- `wires::some_within` meets its contract. Invariant: r contains one of the sets exactly where it contains one of those from i on. The measure
 -- is the sets left. Assumes nothing.
-use Rattle.std.proofs.Common.{◌≡◌, ℕ, ◌+◌, ◌-◌, ◌<◌, ◌≤◌, Bool, true, false, List, length, get_or, take, drop, sym, refl, ◌∙◌, arith, rules}
-use Rattle.wires.specs.Terms.{containsb, some_within}
-use Rattle.wires.proofs.Sets.{some_turn, some-found, some_end}
+use Rattle.std.proofs.Common.{◌≡◌, ℕ, ◌-◌, ◌≤◌, List, take, drop}
+use Rattle.wires.specs.Terms.{some_within}
 use Rattle.wires.proofs.some_within.Given as goal
 
 pub record Inv (sets : List ℕ) (count r i : ℕ) : Type 0 where

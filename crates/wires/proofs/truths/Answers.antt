@@ -1,9 +1,9 @@
 -- `wires::truths` meets its contract, by its invariant. Assumes nothing.
-use Rattle.std.proofs.Common.{◌≡◌, ℕ, ◌+◌, ◌-◌, ◌*◌, ◌/◌, ◌%◌, ◌^◌, ◌<◌, ◌≤◌, sym, ap, ◌∙◌, subst, arith, shl_exact}
+use Rattle.std.proofs.Common.{◌≡◌, ℕ, ◌+◌, ◌-◌, ◌*◌, ◌%◌, ◌^◌, ◌<◌, ◌≤◌, sym, ap, ◌∙◌, subst, arith, shl_exact}
 use lib.Bits.{bit_or, or_shifted_r}
 use Rattle.wires.specs.Wires.{wire}
 use Rattle.wires.specs.Terms.{Setting, Truths}
-use Rattle.wires.proofs.Terms.{word, Tells, tells_none, more, tells_more, truths-of}
+use Rattle.wires.proofs.Terms.{word, Tells, tells_none, tells_more, truths-of}
 use Rattle.wires.proofs.truths.Goals as goal
 
 -- the set with the two digits d of one more variable

@@ -1,7 +1,6 @@
 -- `writer::judge` meets its contract: section by section, and then the room. Assumes nothing.
 use mathlib.Core.Path.{sym, ◌∙◌}
 use native.Mathlib.Omega.{arith}
-use borrow.Author.Rules.{rules}
 use Rattle.writer.proofs.Judging.{pins-few, rules-few, first_stops, second-stops, third-stops, fourth-stops, to_room}
 use Rattle.writer.proofs.judge.Goals as goal
 

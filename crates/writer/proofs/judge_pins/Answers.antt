@@ -1,10 +1,7 @@
 -- `writer::judge_pins` meets its contract, by its invariant. Assumes nothing.
-use mathlib.Core.Path.{◌≡◌, sym, ◌∙◌}
-use Prim.Native.Nat.{◌-◌, ◌≤◌}
+use mathlib.Core.Path.{sym, ◌∙◌}
 use native.Mathlib.Omega.{arith}
 use borrow.Author.Rules.{rules}
-use lib.ListN.{length, drop}
-use Rattle.writer.specs.Writing.{pins_rise, judge_pins}
 use Rattle.writer.proofs.Judging.{pins-stop, pins-go, pins-turn, pins-fault, pins-end}
 use Rattle.writer.proofs.judge_pins.Goals as goal
 

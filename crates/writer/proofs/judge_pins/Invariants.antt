@@ -1,12 +1,9 @@
 -- `writer::judge_pins` meets its contract. The invariant: the whole is what is left of the pins, from here on. The measure is the count of what is
 -- left. Assumes nothing.
-use mathlib.Core.Path.{◌≡◌, sym, ◌∙◌}
+use mathlib.Core.Path.{◌≡◌}
 use Prim.Native.Nat.{◌-◌, ◌≤◌}
-use native.Mathlib.Omega.{arith}
-use borrow.Author.Rules.{rules}
 use lib.ListN.{length, drop}
 use Rattle.writer.specs.Writing.{pins_rise, judge_pins}
-use Rattle.writer.proofs.Judging.{pins-stop, pins-go, pins-turn, pins-fault, pins-end}
 use Rattle.writer.proofs.judge_pins.Given as goal
 
 abbrev pub invariant-loop-next : goal.invariant-loop-next

@@ -1,7 +1,6 @@
 -- `writer::judge_rule` meets its contract: a term that is not below the limit stands above all that are. Assumes nothing.
 use mathlib.Core.Path.{refl}
 use native.Mathlib.Omega.{arith}
-use borrow.Author.Rules.{rules}
 use Rattle.writer.proofs.Judging.{set-stop, set-fine, set-high}
 use Rattle.writer.proofs.judge_rule.Goals as goal
 

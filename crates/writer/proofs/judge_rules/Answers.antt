@@ -1,9 +1,5 @@
 -- `writer::judge_rules` meets its contract, by its invariant. Assumes nothing.
-use mathlib.Core.Path.{◌≡◌, sym, ◌∙◌}
-use Prim.Native.Nat.{◌-◌}
-use borrow.Author.Rules.{rules}
-use lib.ListN.{length, drop}
-use Rattle.writer.specs.Writing.{judge_each, judge_rules}
+use mathlib.Core.Path.{sym, ◌∙◌}
 use Rattle.writer.proofs.Judging.{rules-stop, rules-go, each_turn, each-stop, each-end}
 use Rattle.writer.proofs.judge_rules.Goals as goal
 

@@ -1,10 +1,8 @@
 -- `writer::judge_rules` meets its contract. The invariant: the whole is what is left of the rules, from here on. The measure is the count of what is left. Assumes nothing.
-use mathlib.Core.Path.{◌≡◌, sym, ◌∙◌}
+use mathlib.Core.Path.{◌≡◌}
 use Prim.Native.Nat.{◌-◌}
-use borrow.Author.Rules.{rules}
 use lib.ListN.{length, drop}
 use Rattle.writer.specs.Writing.{judge_each, judge_rules}
-use Rattle.writer.proofs.Judging.{rules-stop, rules-go, each_turn, each-stop, each-end}
 use Rattle.writer.proofs.judge_rules.Given as goal
 
 abbrev pub invariant-loop-number : goal.invariant-loop-number

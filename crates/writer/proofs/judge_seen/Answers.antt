@@ -1,6 +1,5 @@
 -- `writer::judge_seen` meets its contract: the wires not below the limit come last. Assumes nothing.
 use native.Mathlib.Omega.{arith}
-use borrow.Author.Rules.{rules}
 use Rattle.sheet.specs.JobSheet.{seen_limit}
 use Rattle.writer.proofs.Judging.{fewer, set-stop, set-fine, set-high}
 use Rattle.writer.proofs.judge_seen.Goals as goal

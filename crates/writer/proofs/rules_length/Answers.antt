@@ -1,10 +1,7 @@
 -- `writer::rules_length` meets its contract, by its invariant. Assumes nothing.
-use mathlib.Core.Path.{◌≡◌, ap}
-use Prim.Native.Nat.{◌+◌, ◌-◌}
+use mathlib.Core.Path.{ap}
 use native.Mathlib.Omega.{arith}
-use borrow.Author.Rules.{rules}
-use lib.ListN.{length, drop}
-use Rattle.writer.specs.JobWritten.{rules_bytes}
+use lib.ListN.{length}
 use Rattle.writer.proofs.Stores.{rules-next-long, rules-none, rules-short}
 use Rattle.writer.proofs.rules_length.Goals as goal
 

@@ -1,11 +1,8 @@
 -- `writer::rules_length` meets its contract. The invariant: the total and the bytes of the rules that are left are the whole. The measure is the count of those. Assumes nothing.
-use mathlib.Core.Path.{◌≡◌, ap}
+use mathlib.Core.Path.{◌≡◌}
 use Prim.Native.Nat.{◌+◌, ◌-◌}
-use native.Mathlib.Omega.{arith}
-use borrow.Author.Rules.{rules}
 use lib.ListN.{length, drop}
 use Rattle.writer.specs.JobWritten.{rules_bytes}
-use Rattle.writer.proofs.Stores.{rules-next-long, rules-none, rules-short}
 use Rattle.writer.proofs.rules_length.Given as goal
 
 abbrev pub invariant-loop-i : goal.invariant-loop-i

@@ -1,6 +1,5 @@
 -- `writer::sheet_length` meets its contract: the sections, one after another. Assumes nothing.
 use native.Mathlib.Omega.{arith}
-use borrow.Author.Rules.{rules}
 use Rattle.writer.specs.JobWritten.{described}
 use Rattle.writer.proofs.Sets.{members-few}
 use Rattle.writer.proofs.Stores.{rules-short, sheet-long}

@@ -1,6 +1,5 @@
 -- `writer::write_count` meets its contract: its two bytes are the run. Assumes nothing.
 use native.Mathlib.Omega.{arith}
-use borrow.Author.Rules.{rules}
 use mathlib.Core.List.{[], ◌∷◌}
 use Prim.Native.Nat.{◌/◌, ◌%◌}
 use Rattle.steps.proofs.Runs.{joined}

@@ -1,7 +1,7 @@
 -- `writer::write_members` meets its contract, by its invariant. Assumes nothing.
 use native.Mathlib.Omega.{arith}
 use Rattle.wires.proofs.Lowest.{rest_below, trailing_below}
-use Rattle.writer.proofs.Stores.{SetInv, set-start, set-place, set-turn, set-ends, set-done}
+use Rattle.writer.proofs.Stores.{set-start, set-place, set-turn, set-ends, set-done}
 use Rattle.writer.proofs.write_members.Goals as goal
 
 pub loop-left-init : goal.loop-left-init

@@ -1,7 +1,5 @@
 -- `writer::write_members` meets its contract. The invariant (`SetInv`): the run at the end is the buffer as it stands with the entries that are left stored from here on. The measure is the mask that is left. Assumes nothing.
-use native.Mathlib.Omega.{arith}
-use Rattle.wires.proofs.Lowest.{rest_below, trailing_below}
-use Rattle.writer.proofs.Stores.{SetInv, set-start, set-place, set-turn, set-ends, set-done}
+use Rattle.writer.proofs.Stores.{SetInv}
 use Rattle.writer.proofs.write_members.Given as goal
 
 abbrev pub invariant-loop-left : goal.invariant-loop-left

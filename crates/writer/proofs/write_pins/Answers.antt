@@ -1,7 +1,6 @@
 -- `writer::write_pins` meets its contract: the count, and the run of the pins after it. Assumes nothing.
 use mathlib.Core.Path.{refl}
 use native.Mathlib.Omega.{arith}
-use borrow.Author.Rules.{rules}
 use Rattle.writer.proofs.Stores.{after-count, counted-run}
 use Rattle.writer.proofs.write_pins.Goals as goal
 

@@ -1,13 +1,10 @@
 -- `writer::write_rules` meets its contract. The invariant: the run at the end is the buffer as it stands with the rules that are left stored from here on. The measure is the count of those. Assumes nothing.
-use mathlib.Core.Path.{◌≡◌, refl, sym, ap, ◌∙◌}
+use mathlib.Core.Path.{◌≡◌}
 use mathlib.Core.List.{List}
 use Prim.Native.Nat.{ℕ, ◌+◌, ◌-◌}
-use native.Mathlib.Omega.{arith}
-use borrow.Author.Rules.{rules}
-use lib.ListN.{length, get_or, drop}
-use lib.Seq.{sets, length-sets}
-use Rattle.writer.specs.JobWritten.{members, counted, rules_bytes}
-use Rattle.writer.proofs.Stores.{rules-none, rule-room, rule-ends, rule-run}
+use lib.ListN.{length, drop}
+use lib.Seq.{sets}
+use Rattle.writer.specs.JobWritten.{rules_bytes}
 use Rattle.writer.proofs.write_rules.Given as goal
 
 pub record Inv (buf₀ buf : List ℕ) (at : ℕ) (rules : List ℕ) (place i : ℕ) : Type 0 where

@@ -1,6 +1,5 @@
 -- `writer::write_set` meets its contract: the count, and the run of the entries after it. Assumes nothing.
 use native.Mathlib.Omega.{arith}
-use borrow.Author.Rules.{rules}
 use Rattle.writer.specs.JobWritten.{members}
 use Rattle.writer.proofs.Sets.{members-few}
 use Rattle.writer.proofs.Stores.{after-count, counted-run}

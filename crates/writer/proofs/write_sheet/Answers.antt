@@ -1,5 +1,4 @@
 -- `writer::write_sheet` meets its contract: the sections, one run after another. Assumes nothing.
-use borrow.Author.Rules.{rules}
 use Rattle.writer.proofs.Stores.{room-pins, room-a, room-b, room-count, room-rules, sheet-ends, sheet-run}
 use Rattle.writer.proofs.write_sheet.Goals as goal
 

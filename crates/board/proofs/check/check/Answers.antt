@@ -1,9 +1,8 @@
 -- `board::check::check` meets its contract: a job that is accepted is the job that its answer is judged by. Assumes nothing.
 use mathlib.Core.Path.{refl, sym, ap, ◌∙◌}
-use borrow.Author.Rules.{rules}
 use lib.ListN.{length, replicate}
 use Rattle.sheet.proofs.Jobs.{job-refused}
-use Rattle.board.proofs.Accepting.{Taken, stored-length, taken, taken-checked, refused-checked}
+use Rattle.board.proofs.Accepting.{stored-length, taken, taken-checked, refused-checked}
 use Rattle.board.proofs.check.check.Goals as goal
 
 pub slice_bounds-check_answer-end : goal.slice_bounds-check_answer-end

@@ -1,14 +1,10 @@
 -- `board::check::check_answer` meets its contract: what the reader of answers told is judged where it stands. Assumes nothing.
-use mathlib.Core.Path.{◌≡◌, sym, ap, subst, ◌∙◌}
-use mathlib.Core.List.{List}
-use Prim.Native.Nat.{ℕ, ◌*◌, ◌%◌, ◌^◌, ◌≤◌}
+use mathlib.Core.Path.{◌≡◌, ap, ◌∙◌}
+use Prim.Native.Nat.{ℕ, ◌^◌, ◌≤◌}
 use native.Mathlib.Omega.{arith}
-use borrow.Author.Rules.{rules}
 use lib.Count.{ones}
 use lib.Pow.{pow_mono}
-use Rattle.sheet.specs.declared.JobHead.{JobHead}
-use Rattle.board.specs.JobBoard.{Sized}
-use Rattle.board.specs.Places.{walk_in, WalkIn}
+use Rattle.board.specs.Places.{walk_in}
 use Rattle.board.proofs.Judging.{tables-in, tables-judged, walk-holds, walk-judged, refused-judged, combinations-are, tables-told, walk-told, refused-told}
 use Rattle.board.proofs.check.check_answer.Goals as goal
 
@@ -28,16 +24,16 @@ read_answer-read-requires c = (few _ _ c.row_count-rows_a.ensures c.requires.see
 pub judge_tables-requires : goal.judge_tables-requires
 judge_tables-requires c = let t = tables-told c.args.h _ _ _ _ c.row_count-rows_a.ensures c.row_count-rows_b.ensures (combinations-are _ c.requires.wires) _ c.read_answer-read.ensures c.in-Tables.is in
     record {
-  sized = c.requires;
-  tables_in = tables-in c.args.h c.args.masks.now _ t.0 t.1 t.2;
-}
+      sized = c.requires;
+      tables_in = tables-in c.args.h c.args.masks.now _ t.0 t.1 t.2;
+    }
 
 pub judge_walk-requires : goal.judge_walk-requires
 judge_walk-requires c = let t = walk-told c.args.h _ _ _ _ c.row_count-rows_a.ensures c.row_count-rows_b.ensures (combinations-are _ c.requires.wires) _ c.read_answer-read.ensures _ c.in-Walk.is in
     record {
-  sized = c.requires;
-  walk_in = rw t.2 (walk-holds c.args.h c.args.masks.now _ t.0 t.1);
-}
+      sized = c.requires;
+      walk_in = rw t.2 (walk-holds c.args.h c.args.masks.now _ t.0 t.1);
+    }
 
 pub returns-in-Tables : goal.returns-in-Tables
 returns-in-Tables c = let t = tables-told c.args.h _ _ _ _ c.row_count-rows_a.ensures c.row_count-rows_b.ensures (combinations-are _ c.requires.wires) _ c.read_answer-read.ensures c.in-Tables.is in

@@ -1,6 +1,5 @@
 -- `board::check::entry_steps` meets its contract: the two claims and the combination are those of the sheet, and the test says which entry comes after.
 -- Assumes nothing.
-use borrow.Author.Rules.{rules}
 use borrow.Author.Tests.{eq-eqb, ne_eqb}
 use Rattle.board.proofs.check.entry_steps.Goals as goal
 

@@ -4,7 +4,6 @@ use mathlib.Core.Path.{◌≡◌}
 use mathlib.Core.List.{List}
 use Prim.Native.Nat.{ℕ, ◌+◌, ◌^◌, ◌<◌}
 use native.Mathlib.Omega.{arith}
-use borrow.Author.Rules.{rules}
 use lib.Count.{ones}
 use lib.ListN.{get_or}
 use Rattle.wires.specs.Wires.{shown}
@@ -38,9 +37,9 @@ pub test-requires : goal.test-requires
 test-requires c = let bit-of-a = c.requires.tables_in.bits_a _ c.row_shown.ensures.below in
     let bit-of-b = bit-b _ _ c.requires.tables_in _ _ c.row_count.ensures c.row_shown-2.ensures.below in
     record {
-  sized = c.requires.sized;
-  a_bound = (c.requires.a_bound, bit-of-a, bit-of-b);
-}
+      sized = c.requires.sized;
+      a_bound = (c.requires.a_bound, bit-of-a, bit-of-b);
+    }
 
 pub returns : goal.returns
 returns c = is-fault c.args.h c.args.masks.now c.args.answer.now _ _ _ _ _ c.test.ensures

@@ -1,9 +1,8 @@
 -- `board::check::judge_tables` meets its contract, by its invariant. Assumes nothing.
 use mathlib.Core.Path.{◌≡◌, sym, ap, ◌∙◌}
 use mathlib.Core.List.{List}
-use Prim.Native.Nat.{ℕ, ◌-◌, ◌^◌, ◌<◌, ◌≤◌, ◌+◌}
+use Prim.Native.Nat.{ℕ, ◌^◌, ◌<◌, ◌≤◌, ◌+◌}
 use native.Mathlib.Omega.{arith}
-use borrow.Author.Rules.{rules}
 use borrow.Author.Tests.{lt-ltb, le-ltb}
 use lib.Pow.{pow_mono}
 use Rattle.steps.specs.declared.Outcome.{Outcome}
@@ -47,10 +46,10 @@ overflow_cast-number c = let most = pow_mono c.requires.sized.wires in
 pub fault_at-fault-requires : goal.fault_at-fault-requires
 fault_at-fault-requires c = let most = pow_mono c.requires.sized.wires in
     record {
-  sized = c.requires.sized;
-  tables_in = c.requires.tables_in;
-  a_bound = omega arith;
-}
+      sized = c.requires.sized;
+      tables_in = c.requires.tables_in;
+      a_bound = omega arith;
+    }
 
 pub returns-in-Rule : goal.returns-in-Rule
 returns-in-Rule c = let most = pow_mono c.requires.sized.wires in

@@ -1,5 +1,4 @@
 -- `board::check::judge_walk` meets its contract: each test is the one that `walk_in` makes. Assumes nothing.
-use borrow.Author.Rules.{rules}
 use borrow.Author.Tests.{lt-ltb, le-ltb}
 use Rattle.board.proofs.check.judge_walk.Goals as goal
 
@@ -8,16 +7,16 @@ returns-then-lowest-count c = rw (← c.lowest_bad_step-lowest.ensures, lt-ltb _
 
 pub returns-then-meets_opposite : goal.returns-then-meets_opposite
 returns-then-meets_opposite c = rw (
-      ← c.lowest_bad_step-lowest.ensures,
-      le-ltb _ _ c.if-lowest-count.false,
-      ← c.meets_opposite.ensures,
-      c.if-meets_opposite.true,
-    ) c.succeeded.ensures
+  ← c.lowest_bad_step-lowest.ensures,
+  le-ltb _ _ c.if-lowest-count.false,
+  ← c.meets_opposite.ensures,
+  c.if-meets_opposite.true,
+) c.succeeded.ensures
 
 pub returns-else-meets_opposite : goal.returns-else-meets_opposite
 returns-else-meets_opposite c = rw (
-      ← c.lowest_bad_step-lowest.ensures,
-      le-ltb _ _ c.if-lowest-count.false,
-      ← c.meets_opposite.ensures,
-      c.if-meets_opposite.false,
-    ) c.refused-else-meets_opposite.ensures
+  ← c.lowest_bad_step-lowest.ensures,
+  le-ltb _ _ c.if-lowest-count.false,
+  ← c.meets_opposite.ensures,
+  c.if-meets_opposite.false,
+) c.refused-else-meets_opposite.ensures

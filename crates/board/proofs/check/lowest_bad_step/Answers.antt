@@ -1,15 +1,9 @@
 -- `board::check::lowest_bad_step` meets its contract, by its invariant. Assumes nothing.
 use mathlib.Core.Path.{sym, ap, ◌∙◌}
-use mathlib.Core.List.{List}
-use mathlib.Core.Bool.{Bool, not}
-use Prim.Native.Nat.{ℕ, ◌-◌, ◌≤◌}
+use mathlib.Core.Bool.{not}
 use native.Mathlib.Nat.{sub-zero}
 use native.Mathlib.Omega.{arith}
-use borrow.Author.Rules.{rules}
-use Rattle.sheet.specs.declared.JobHead.{JobHead}
-use Rattle.board.specs.Places.{step_in}
-use Rattle.board.proofs.Lowest.{Left, search-turn, search-found, search-end}
-use Rattle.board.proofs.check.lowest_bad_step.Invariants.{bad, bad}
+use Rattle.board.proofs.Lowest.{search-turn, search-found, search-end}
 use Rattle.board.proofs.check.lowest_bad_step.Goals as goal
 
 pub loop-i-init : goal.loop-i-init

@@ -1,14 +1,10 @@
 -- `board::check::lowest_bad_step` meets its contract. Invariant: the lowest of all entries is the lowest of those from i on. Assumes nothing.
-use mathlib.Core.Path.{sym, ap, ◌∙◌}
 use mathlib.Core.List.{List}
 use mathlib.Core.Bool.{Bool, not}
 use Prim.Native.Nat.{ℕ, ◌-◌, ◌≤◌}
-use native.Mathlib.Nat.{sub-zero}
-use native.Mathlib.Omega.{arith}
-use borrow.Author.Rules.{rules}
 use Rattle.sheet.specs.declared.JobHead.{JobHead}
 use Rattle.board.specs.Places.{step_in}
-use Rattle.board.proofs.Lowest.{Left, search-turn, search-found, search-end}
+use Rattle.board.proofs.Lowest.{Left}
 use Rattle.board.proofs.check.lowest_bad_step.Given as goal
 
 -- the step of an entry does not hold

@@ -1,11 +1,7 @@
 -- `board::check::meets_opposite` meets its contract, by its invariant. Assumes nothing.
 use mathlib.Core.Path.{◌≡◌, refl, sym}
-use mathlib.Core.Bool.{false}
-use Prim.Native.Nat.{◌-◌, ◌≤◌}
 use native.Mathlib.Omega.{arith}
-use borrow.Author.Rules.{rules}
 use Rattle.board.specs.JobBoard.{any_below}
-use Rattle.board.specs.Places.{opposed_in}
 use Rattle.board.proofs.Walking.{met, unmet}
 use Rattle.board.proofs.check.meets_opposite.Goals as goal
 

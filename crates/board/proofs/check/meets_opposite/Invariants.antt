@@ -1,12 +1,9 @@
 -- `board::check::meets_opposite` meets its contract. Invariant: none of the claims looked at so far is the opposite of the first. Assumes nothing.
-use mathlib.Core.Path.{◌≡◌, refl, sym}
+use mathlib.Core.Path.{◌≡◌}
 use mathlib.Core.Bool.{false}
 use Prim.Native.Nat.{◌-◌, ◌≤◌}
-use native.Mathlib.Omega.{arith}
-use borrow.Author.Rules.{rules}
 use Rattle.board.specs.JobBoard.{any_below}
 use Rattle.board.specs.Places.{opposed_in}
-use Rattle.board.proofs.Walking.{met, unmet}
 use Rattle.board.proofs.check.meets_opposite.Given as goal
 
 abbrev pub invariant-loop-i : goal.invariant-loop-i
