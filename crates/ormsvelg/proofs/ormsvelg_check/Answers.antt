@@ -1,6 +1,5 @@
 -- `ormsvelg::ormsvelg_check` meets its contract: what the checker answers fits its number. Assumes nothing.
 use mathlib.Core.Path.{ap, ◌∙◌}
-use borrow.Author.Rules.{rules}
 use Rattle.ormsvelg.specs.Packed.{pack}
 use Rattle.ormsvelg.proofs.Packing.{check-packs}
 use Rattle.ormsvelg.proofs.ormsvelg_check.Goals as goal

@@ -1,6 +1,5 @@
 -- `ormsvelg::ormsvelg_read` meets its contract: what the reader answers fits its number. Assumes nothing.
 use mathlib.Core.Path.{ap, ◌∙◌}
-use borrow.Author.Rules.{rules}
 use Rattle.ormsvelg.specs.Packed.{pack}
 use Rattle.ormsvelg.proofs.Packing.{read-packs}
 use Rattle.ormsvelg.proofs.ormsvelg_read.Goals as goal

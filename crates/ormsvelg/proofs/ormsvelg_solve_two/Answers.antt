@@ -1,5 +1,4 @@
 -- `ormsvelg::ormsvelg_solve_two` meets its contract: what the solver answers fits its number, and is found again in it. Assumes nothing.
-use borrow.Author.Rules.{rules}
 use Rattle.ormsvelg.proofs.Packing.{solve-packs, solve-found}
 use Rattle.ormsvelg.proofs.ormsvelg_solve_two.Goals as goal
 

@@ -1,6 +1,5 @@
 -- `ormsvelg::ormsvelg_to_two` meets its contract: what the mover answers fits its number. Assumes nothing.
 use mathlib.Core.Path.{ap, ◌∙◌}
-use borrow.Author.Rules.{rules}
 use Rattle.ormsvelg.specs.Packed.{pack}
 use Rattle.ormsvelg.proofs.Packing.{move-packs}
 use Rattle.ormsvelg.proofs.ormsvelg_to_two.Goals as goal

@@ -1,6 +1,5 @@
 -- `ormsvelg::ormsvelg_widen_two` meets its contract: what the widener answers fits its number. Assumes nothing.
 use mathlib.Core.Path.{ap, ◌∙◌}
-use borrow.Author.Rules.{rules}
 use Rattle.ormsvelg.specs.Packed.{pack}
 use Rattle.ormsvelg.proofs.Packing.{widen-packs}
 use Rattle.ormsvelg.proofs.ormsvelg_widen_two.Goals as goal

@@ -1,6 +1,5 @@
 -- `ormsvelg::ormsvelg_write` meets its contract: what the writer answers fits its number. Assumes nothing.
 use mathlib.Core.Path.{ap, ◌∙◌}
-use borrow.Author.Rules.{rules}
 use Rattle.ormsvelg.specs.Packed.{pack}
 use Rattle.ormsvelg.proofs.Packing.{write-packs}
 use Rattle.ormsvelg.proofs.ormsvelg_write.Goals as goal
