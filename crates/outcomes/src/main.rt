@@ -9,6 +9,7 @@
 #![tactic(auto)]
 
 ghost use Rattle.std.specs.Prelude.{◌≡◌, ◌+◌, ◌*◌, ◌<◌, ◌≤◌, IfOk, length};
+ghost use Rattle.std.specs.Io.{ReadsAtMost};
 
 use answer::LONGEST;
 use sheet::Form;
@@ -46,7 +47,7 @@ fn read_form<R: Read>(book: &mut R) -> io::Result<Form> {
 // Reads a sheet to the front of an array. Answers how many bytes came.
 fn read_sheet<R: Read>(book: &mut R, sheet: &mut [u8]) -> io::Result<usize>
     requires { 65536 ≤ length sheet.old }
-    ensures { IfOk result (λ n. n ≤ length sheet.new) }
+    ensures { ReadsAtMost result sheet.new }
 {
     let asked = read_word(book)?;
     input::read_full(book, &mut sheet[..asked])
