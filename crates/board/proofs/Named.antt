@@ -66,8 +66,8 @@ module _ (j : Job) (T : List ℕ) where
     pub unexcused : Unexcused place
     pub among : rule < length j.rules
     pub broken : BreaksRule place rule
-    pub lower-rules : (i : ℕ) → i < rule → Keeps place i
-    pub lower-places : (a : ℕ) → a < place → Unexcused a → (i : ℕ) → i < length j.rules → Keeps a i
+    pub lower_rules : (i : ℕ) → i < rule → Keeps place i
+    pub lower_places : (a : ℕ) → a < place → Unexcused a → (i : ℕ) → i < length j.rules → Keeps a i
 
   fault : (a : ℕ) → (fault_at B T a ≡ true) ↔ (Fault n j.rules (length j.rules) a (cell_a a) (cell_b a) × Unexcused a)
   fault a = faultb-iff n j.rules j.excuses a (cell_a a) (cell_b a)
@@ -85,8 +85,8 @@ module _ (j : Job) (T : List ℕ) where
         unexcused = f.1;
         among = among;
         broken = rule-breaks n j.rules low (cell_a low) (cell_b low) among;
-        lower-rules = rule-least n j.rules low (cell_a low) (cell_b low);
-        lower-places = λ a l free. counted-holds n j.rules j.excuses a (cell_a a) (cell_b a) (lowest-least (fault_at B T) B.combinations a l) free;
+        lower_rules = rule-least n j.rules low (cell_a low) (cell_b low);
+        lower_places = λ a l free. counted-holds n j.rules j.excuses a (cell_a a) (cell_b a) (lowest-least (fault_at B T) B.combinations a l) free;
       })
 
   module _ (place rule : ℕ) where
@@ -106,11 +106,11 @@ module _ (j : Job) (T : List ℕ) where
     place-low : Named place rule → place ≡ low
     place-low g =
         lowest-is (fault_at B T) B.combinations place g.combination (there g)
-        (λ a l. fails (fault_at B T a) (λ e. let f = (fault a).0 e in f.0.2 (g.lower-places a l f.1 f.0.0 f.0.1)))
+        (λ a l. fails (fault_at B T a) (λ e. let f = (fault a).0 e in f.0.2 (g.lower_places a l f.1 f.0.0 f.0.1)))
 
     rule-low : Named place rule → rule ≡ rule_at B T place
     rule-low g =
-        rule-is n j.rules place (cell_a place) (cell_b place) rule g.among g.broken g.lower-rules
+        rule-is n j.rules place (cell_a place) (cell_b place) rule g.among g.broken g.lower_rules
         ∙ sym (tested-rule B place (cell_a place) (cell_b place) (there g))
 
     breaks-from : Named place rule → judge_tables B T ≡ rule_broken place rule

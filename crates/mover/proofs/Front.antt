@@ -47,15 +47,15 @@ module _ (s : List ℕ) where
   abbrev rest : Head → ℕ → Step Job
   rest h p = next (rules h.count (terms_of h.wires) s p) (λ rs q. end_of h rs (end s q))
 
-  at-rules : (h : Head) (p : ℕ) → p ≤ length s → (x : Step (List ℕ)) → rules h.count (terms_of h.wires) s p ≡ x
+  at_rules : (h : Head) (p : ℕ) → p ≤ length s → (x : Step (List ℕ)) → rules h.count (terms_of h.wires) s p ≡ x
       → told_by x ≡ one_told (verdict_of (next x (λ rs q. end_of h rs (end s q))))
   unfolding end
-  at-rules h p l (got rs q) e = at-end h rs q ((goes-rules h.count (terms_of h.wires)).inside s p rs q e l) (ltb q (length s)) refl
-  at-rules h p l (refused w) e = refl
+  at_rules h p l (got rs q) e = at-end h rs q ((goes-rules h.count (terms_of h.wires)).inside s p rs q e l) (ltb q (length s)) refl
+  at_rules h p l (refused w) e = refl
 
   at_head : (x : Step Head) → head s 0 ≡ x
       → told_by (next x (λ h p. rules h.count (terms_of h.wires) s p)) ≡ one_told (verdict_of (next x rest))
-  at_head (got h p) e = at-rules h p (goes-head.inside s 0 h p e (omega arith)) (rules h.count (terms_of h.wires) s p) refl
+  at_head (got h p) e = at_rules h p (goes-head.inside s 0 h p e (omega arith)) (rules h.count (terms_of h.wires) s p) refl
   at_head (refused w) e = refl
 
   told-one : excuses_at s ≡ one_told (read_job One s)
@@ -80,9 +80,9 @@ word-zero s at m h =
     (omega (arith, byte-is s at i.0 i.1 i.2), omega arith)
 
 module _ (t : List ℕ) (j : Job) (ok : read_job Two t ≡ accepted j) where
-  at-is : excuses_at t ≡ (sections Two t j ok).at-excuses
+  at-is : excuses_at t ≡ (sections Two t j ok).at_excuses
   unfolding excuses_at front
-  at-is = let x = sections Two t j ok in rw (x.head-is, x.rules_are)
+  at-is = let x = sections Two t j ok in rw (x.head_is, x.rules_are)
 
   pub count-there : word_count excuse_limit t (excuses_at t) ≡ got (length j.excuses) (excuses_at t + 2)
   count-there = rw at-is (fifth-is t j ok).0

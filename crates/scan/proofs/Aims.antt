@@ -32,7 +32,7 @@ Ends g l a base low high =
 pub record Aims (g : Grid) (l a base low high : ℕ) : Type 0 where
   pub inside : base + 1 < claims g
   pub small_low : low < 8
-  pub small-high : high < 8
+  pub small_high : high < 8
   pub at_low : bit (fault g a) low ≡ 1 → Step g l base a
   pub at_high : bit (fault g a) high ≡ 1 → Step g l (base + 1) a
   pub all : Ends g l a base low high
@@ -60,7 +60,7 @@ module _ {g : Grid} {l a base low high : ℕ} (ok : Sound g) (w : a < g.shape.co
   aims-a e q = record {
     inside = omega (arith, in-b ok a w);
     small_low = omega arith;
-    small-high = omega arith;
+    small_high = omega arith;
     at_low = λ f. a-to-b w e (omega arith) (moved (fault g a) low (2 * (l % 2) + (1 - base % 2)) f (omega arith));
     at_high = λ f. a-to-b w e (omega arith) (moved (fault g a) high (2 * (l % 2) + (1 - (base + 1) % 2)) f (omega arith));
     all = ends-a e q.0 q.1 q.2;
@@ -77,7 +77,7 @@ module _ {g : Grid} {l a base low high : ℕ} (ok : Sound g) (w : a < g.shape.co
   aims-b e q = record {
     inside = omega (arith, in-a ok a w);
     small_low = omega arith;
-    small-high = omega arith;
+    small_high = omega arith;
     at_low = λ f. b-to-a w e (omega arith) (moved (fault g a) low (2 * (1 - base % 2) + l % 2) f (omega arith));
     at_high = λ f. b-to-a w e (omega arith) (moved (fault g a) high (2 * (1 - (base + 1) % 2) + l % 2) f (omega arith));
     all = ends-b e q.0 q.1 q.2;
@@ -85,18 +85,18 @@ module _ {g : Grid} {l a base low high : ℕ} (ok : Sound g) (w : a < g.shape.co
 
 -- ---- by the cell of the claim
 
-abbrev pub side-a : Shape → ℕ → Side
-side-a shape l = side shape.sees_a (l / 2) shape.rows_a (2 * (l % 2) + 1) (2 * (l % 2))
+abbrev pub side_a : Shape → ℕ → Side
+side_a shape l = side shape.sees_a (l / 2) shape.rows_a (2 * (l % 2) + 1) (2 * (l % 2))
 
-abbrev pub side-b : Shape → ℕ → Side
-side-b shape l = side shape.sees_b (l / 2 - shape.rows_a) 0 (2 + l % 2) (l % 2)
+abbrev pub side_b : Shape → ℕ → Side
+side_b shape l = side shape.sees_b (l / 2 - shape.rows_a) 0 (2 + l % 2) (l % 2)
 
 module _ (shape : Shape) (l : ℕ) where
-  pub of-a : l / 2 < shape.rows_a → side_of shape l ≡ side-a shape l
+  pub of-a : l / 2 < shape.rows_a → side_of shape l ≡ side_a shape l
   unfolding side_of
   of-a h = rw (lt-ltb (l / 2) shape.rows_a h) refl
 
-  pub of-b : shape.rows_a ≤ l / 2 → side_of shape l ≡ side-b shape l
+  pub of-b : shape.rows_a ≤ l / 2 → side_of shape l ≡ side_b shape l
   unfolding side_of
   of-b h = rw (le-ltb (l / 2) shape.rows_a h) refl
 
@@ -110,7 +110,7 @@ module _ (g : Grid) (l : ℕ) where
   aim-b h = rw (le-ltb (l / 2) g.shape.rows_a h) refl
 
   -- what holds of both cells' aims holds of the claim's
-  by-cell : (P : Aim → Type 0) → (l / 2 < g.shape.rows_a → P (aim g.faults g.row_b (side-a g.shape l))) → (g.shape.rows_a ≤ l / 2 → P (aim g.faults g.row_a (side-b g.shape l))) → P (aim_of g l)
+  by-cell : (P : Aim → Type 0) → (l / 2 < g.shape.rows_a → P (aim g.faults g.row_b (side_a g.shape l))) → (g.shape.rows_a ≤ l / 2 → P (aim g.faults g.row_a (side_b g.shape l))) → P (aim_of g l)
   by-cell P p q =
       by_cases (dec_lt (l / 2) g.shape.rows_a) (λ h. subst P (sym (aim-a h ∙ ap (aim g.faults g.row_b) (of-a g.shape l h))) (p h))
       (λ h. subst P (sym (aim-b (omega arith) ∙ ap (aim g.faults g.row_a) (of-b g.shape l (omega arith)))) (q (omega arith)))

@@ -51,9 +51,9 @@ module _ {g : Grid} {s : Store} {tail l a : ℕ} (k : Turn g s tail l a) where
     in_other = omega (arith, aim-long g l k.sound, k.within);
     few = omega (arith, m.inside, k.sound.sizes.few_a, k.sound.sizes.few_b);
     next = omega (arith, m.inside, k.reach.room.reached);
-    high_small = m.small-high;
+    high_small = m.small_high;
     to_base = offers k.sound k.reach low-inside m.small_low;
-    to_next = λ t mid o. offers k.sound (first (rw (aim-faults g l) at o)).reach m.inside m.small-high;
+    to_next = λ t mid o. offers k.sound (first (rw (aim-faults g l) at o)).reach m.inside m.small_high;
   }
 
   module _ {t : Store} {last : ℕ} (d : Looked (aim_of g l) s tail l a t last) where

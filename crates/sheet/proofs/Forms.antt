@@ -82,7 +82,7 @@ head-on s h n e =
 pub five-bytes : (f : Form) (s : List ℕ) (j : Job) → read_job f s ≡ accepted j → 5 ≤ length s
 five-bytes f s j ok =
     let x = sections f s j ok in
-    omega (arith, head-on s x.top x.at-rules x.head-is, goes-head.inside s 0 x.top x.at-rules x.head-is (omega arith))
+    omega (arith, head-on s x.top x.at_rules x.head_is, goes-head.inside s 0 x.top x.at_rules x.head_is (omega arith))
 
 no-rules : (rs : List ℕ) (terms : ℕ) (s : List ℕ) (at n : ℕ) → rs ≡ [] → rules (length rs) terms s at ≡ got rs n → at ≡ n
 unfolding rules
@@ -94,27 +94,27 @@ module _ (t : List ℕ) (j : Job) (ok : read_job Two t ≡ accepted j) where
   x = sections Two t j ok
 
   -- the excuse count stands after the rules, and the excuses after it
-  pub fifth-is : (word_count excuse_limit t x.at-excuses ≡ got (length j.excuses) (x.at-excuses + 2))
-      × (rules (length j.excuses) (wire_terms_of x.top.wires) t (x.at-excuses + 2) ≡ got j.excuses x.last)
+  pub fifth-is : (word_count excuse_limit t x.at_excuses ≡ got (length j.excuses) (x.at_excuses + 2))
+      × (rules (length j.excuses) (wire_terms_of x.top.wires) t (x.at_excuses + 2) ≡ got j.excuses x.last)
   unfolding excuses
   fifth-is =
-      let w = next-inv (word_count excuse_limit t x.at-excuses) _ j.excuses x.last x.excuses_are in
+      let w = next-inv (word_count excuse_limit t x.at_excuses) _ j.excuses x.last x.excuses_are in
       let many = rules-length w.0 (wire_terms_of x.top.wires) t w.1 j.excuses x.last w.3 in
-      rw (many, ← word-count-next excuse_limit t x.at-excuses w.0 w.1 w.2) (w.2, w.3)
+      rw (many, ← word-count-next excuse_limit t x.at_excuses w.0 w.1 w.2) (w.2, w.3)
 
-  pub fifth-inside : x.at-excuses + 2 ≤ length t
+  pub fifth-inside : x.at_excuses + 2 ≤ length t
   fifth-inside =
-      let first = goes-head.inside t 0 x.top x.at-rules x.head-is (omega arith) in
-      let there = (goes-rules x.top.count (terms_of x.top.wires)).inside t x.at-rules j.rules x.at-excuses x.rules_are first in
-      (goes-word-count excuse_limit).inside t x.at-excuses _ _ fifth-is.0 there
+      let first = goes-head.inside t 0 x.top x.at_rules x.head_is (omega arith) in
+      let there = (goes-rules x.top.count (terms_of x.top.wires)).inside t x.at_rules j.rules x.at_excuses x.rules_are first in
+      (goes-word-count excuse_limit).inside t x.at_excuses _ _ fifth-is.0 there
 
   pub seven-bytes : 7 ≤ length t
   seven-bytes =
-      let on = (goes-rules x.top.count (terms_of x.top.wires)).on t x.at-rules j.rules x.at-excuses x.rules_are in
-      omega (arith, head-on t x.top x.at-rules x.head-is, fifth-inside)
+      let on = (goes-rules x.top.count (terms_of x.top.wires)).on t x.at_rules j.rules x.at_excuses x.rules_are in
+      omega (arith, head-on t x.top x.at_rules x.head_is, fifth-inside)
 
-  pub none_last : j.excuses ≡ [] → length t ≡ x.at-excuses + 2
-  none_last none = omega (arith, x.ends, fifth-inside, no-rules j.excuses (wire_terms_of x.top.wires) t (x.at-excuses + 2) x.last none fifth-is.1)
+  pub none_last : j.excuses ≡ [] → length t ≡ x.at_excuses + 2
+  none_last none = omega (arith, x.ends, fifth-inside, no-rules j.excuses (wire_terms_of x.top.wires) t (x.at_excuses + 2) x.last none fifth-is.1)
 
 module _ (s : List ℕ) where
   -- the sheet in form two
@@ -143,13 +143,13 @@ module _ (s : List ℕ) where
   form-two j ok =
       let x = sections One s j ok in
       let steps = goes-rules x.top.count (terms_of x.top.wires) in
-      let in_head : x.at-rules ≤ length s = goes-head.inside s 0 x.top x.at-rules x.head-is (omega arith) in
-      let in-rules : x.at-excuses ≤ length s = steps.inside s x.at-rules j.rules x.at-excuses x.rules_are in_head in
-      let ends : x.at-excuses ≡ length s = omega (arith, x.ends, place_same x.excuses_are) in
-      let first = goes-head.same s more 0 x.top x.at-rules (more-alike x.at-rules in_head) x.head-is in
-      let then = steps.same s more x.at-rules j.rules x.at-excuses (more-alike x.at-excuses in-rules) x.rules_are in
+      let in_head : x.at_rules ≤ length s = goes-head.inside s 0 x.top x.at_rules x.head_is (omega arith) in
+      let in-rules : x.at_excuses ≤ length s = steps.inside s x.at_rules j.rules x.at_excuses x.rules_are in_head in
+      let ends : x.at_excuses ≡ length s = omega (arith, x.ends, place_same x.excuses_are) in
+      let first = goes-head.same s more 0 x.top x.at_rules (more-alike x.at_rules in_head) x.head_is in
+      let then = steps.same s more x.at_rules j.rules x.at_excuses (more-alike x.at_excuses in-rules) x.rules_are in
       let last = end_read more (length s + 2) more-long in
-      let none : [] ≡ j.excuses = got-inj [] j.excuses x.at-excuses x.last x.excuses_are in
+      let none : [] ≡ j.excuses = got-inj [] j.excuses x.at_excuses x.last x.excuses_are in
       rw (first, then, ends, none_read x.top.wires, last) (ap (λ (es : List ℕ). accepted (job_of x.top j.rules es)) none ∙ ap accepted x.job_is)
 
   pub form-one : (j : Job) → j.excuses ≡ [] → read_job Two (s ++ (0 ∷ 0 ∷ [])) ≡ accepted j → read_job One s ≡ accepted j
@@ -157,9 +157,9 @@ module _ (s : List ℕ) where
   form-one j free ok =
       let x = sections Two more j ok in
       let steps = goes-rules x.top.count (terms_of x.top.wires) in
-      let ends : x.at-excuses ≡ length s = omega (arith, more-long, none_last more j ok free) in
-      let on-rules : x.at-rules ≤ x.at-excuses = steps.on more x.at-rules j.rules x.at-excuses x.rules_are in
-      let first = goes-head.same more s 0 x.top x.at-rules (less-alike x.at-rules (omega arith)) x.head-is in
-      let then = steps.same more s x.at-rules j.rules x.at-excuses (less-alike x.at-excuses (omega arith)) x.rules_are in
-      let last = end_read s x.at-excuses (sym ends) in
+      let ends : x.at_excuses ≡ length s = omega (arith, more-long, none_last more j ok free) in
+      let on-rules : x.at_rules ≤ x.at_excuses = steps.on more x.at_rules j.rules x.at_excuses x.rules_are in
+      let first = goes-head.same more s 0 x.top x.at_rules (less-alike x.at_rules (omega arith)) x.head_is in
+      let then = steps.same more s x.at_rules j.rules x.at_excuses (less-alike x.at_excuses (omega arith)) x.rules_are in
+      let last = end_read s x.at_excuses (sym ends) in
       rw (first, then, last) (ap (λ (es : List ℕ). accepted (job_of x.top j.rules es)) (sym free) ∙ ap accepted x.job_is)

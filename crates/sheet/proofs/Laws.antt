@@ -142,12 +142,12 @@ excuses-few Two n s at es m h =
 -- the sections of a sheet that is accepted
 pub record Sections (f : Form) (s : List ℕ) (j : Job) : Type 0 where
   pub top : Head
-  pub at-rules : ℕ
-  pub at-excuses : ℕ
+  pub at_rules : ℕ
+  pub at_excuses : ℕ
   pub last : ℕ
-  pub head-is : head s 0 ≡ got top at-rules
-  pub rules_are : rules top.count (terms_of top.wires) s at-rules ≡ got j.rules at-excuses
-  pub excuses_are : excuses f top.wires s at-excuses ≡ got j.excuses last
+  pub head_is : head s 0 ≡ got top at_rules
+  pub rules_are : rules top.count (terms_of top.wires) s at_rules ≡ got j.rules at_excuses
+  pub excuses_are : excuses f top.wires s at_excuses ≡ got j.excuses last
   pub ends : length s ≤ last
   pub job_is : record { pins = top.pins; sees_a = top.sees_a; sees_b = top.sees_b; rules = j.rules; excuses = j.excuses } ≡ j
 
@@ -162,10 +162,10 @@ sections f s j ok =
     let same = got-inj _ j _ _ e.3 in
     record {
       top = i.0;
-      at-rules = i.1;
-      at-excuses = r.1;
+      at_rules = i.1;
+      at_excuses = r.1;
       last = x.1;
-      head-is = i.2;
+      head_is = i.2;
       rules_are = r.2 ∙ ap (λ (k : Job). got k.rules r.1) same;
       excuses_are = x.2 ∙ ap (λ (k : Job). got k.excuses x.1) same;
       ends = end-there s x.1 e.0 e.1 e.2;
@@ -186,15 +186,15 @@ module _ (f : Form) (s : List ℕ) (j : Job) (ok : read_job f s ≡ accepted j) 
   b-is = sym (ap (λ (k : Job). k.sees_b) x.job_is)
 
   wires-are : length j.pins ≡ x.top.wires
-  wires-are = ap length pins-are ∙ (head-facts s x.top x.at-rules x.head-is).2
+  wires-are = ap length pins-are ∙ (head-facts s x.top x.at_rules x.head_is).2
 
   pub pins-stay : j.pins ≡ take (length j.pins) (drop 1 s)
-  pins-stay = pins-are ∙ (head-sets s x.top x.at-rules x.head-is).2 ∙ ap (λ (k : ℕ). take k (drop 1 s)) (sym wires-are)
+  pins-stay = pins-are ∙ (head-sets s x.top x.at_rules x.head_is).2 ∙ ap (λ (k : ℕ). take k (drop 1 s)) (sym wires-are)
 
   -- all that is stored is the rules and the excuses
   pub masks-kept : kept_masks f s ≡ j.rules ++ j.excuses
   unfolding kept_masks
-  masks-kept = rw x.head-is (terms-kept f x.top.wires x.top.count s x.at-rules j.rules j.excuses x.at-excuses x.last x.rules_are x.excuses_are)
+  masks-kept = rw x.head_is (terms-kept f x.top.wires x.top.count s x.at_rules j.rules j.excuses x.at_excuses x.last x.rules_are x.excuses_are)
 
   module _ (buf : List ℕ) (l : length j.rules + length j.excuses ≤ length buf) where
     stored : sets buf 0 (kept_masks f s) ≡ j.rules ++ (j.excuses ++ drop (length j.rules + length j.excuses) buf)
@@ -215,28 +215,28 @@ module _ (f : Form) (s : List ℕ) (j : Job) (ok : read_job f s ≡ accepted j) 
 
   pub job-bounds : (length j.pins ≤ wire_limit) × (length j.rules ≤ rule_limit) × (j.sees_a < 2 ^ length j.pins) × (j.sees_b < 2 ^ length j.pins)
   job-bounds =
-      let b = head-facts s x.top x.at-rules x.head-is in
-      let g = head-sets s x.top x.at-rules x.head-is in
-      let k : length j.rules ≡ x.top.count = rules-length x.top.count (terms_of x.top.wires) s x.at-rules j.rules x.at-excuses x.rules_are in
+      let b = head-facts s x.top x.at_rules x.head_is in
+      let g = head-sets s x.top x.at_rules x.head_is in
+      let k : length j.rules ≡ x.top.count = rules-length x.top.count (terms_of x.top.wires) s x.at_rules j.rules x.at_excuses x.rules_are in
       (rw wires-are b.0, rw k b.1, rw (a-is, wires-are) g.0, rw (b-is, wires-are) g.1)
 
   pub seen-bounds : (ones j.sees_a ≤ seen_limit) × (ones j.sees_b ≤ seen_limit)
   seen-bounds =
-      let g = head-sets s x.top x.at-rules x.head-is in
+      let g = head-sets s x.top x.at_rules x.head_is in
       (rw a-is g.3, rw b-is g.4)
 
   pub rule-bounds : (i : ℕ) → i < length j.rules → get_or j.rules i 0 < 2 ^ terms_of (length j.pins)
   unfolding Below
-  rule-bounds i h = rw wires-are (rules-lt x.top.count (terms_of x.top.wires) s x.at-rules j.rules x.at-excuses x.rules_are i h)
+  rule-bounds i h = rw wires-are (rules-lt x.top.count (terms_of x.top.wires) s x.at_rules j.rules x.at_excuses x.rules_are i h)
 
   pub excuses-most : length j.excuses ≤ excuse_limit
-  excuses-most = (excuses-few f x.top.wires s x.at-excuses j.excuses x.last x.excuses_are).0
+  excuses-most = (excuses-few f x.top.wires s x.at_excuses j.excuses x.last x.excuses_are).0
 
   pub excuse-bounds : (i : ℕ) → i < length j.excuses → get_or j.excuses i 0 < 2 ^ wire_terms_of (length j.pins)
   unfolding Below
-  excuse-bounds i h = rw wires-are ((excuses-few f x.top.wires s x.at-excuses j.excuses x.last x.excuses_are).1 i h)
+  excuse-bounds i h = rw wires-are ((excuses-few f x.top.wires s x.at_excuses j.excuses x.last x.excuses_are).1 i h)
 
 -- in form one a job has no excuses
 pub none-excused : (s : List ℕ) (j : Job) → read_job One s ≡ accepted j → j.excuses ≡ []
 unfolding excuses
-none-excused s j ok = let x = sections One s j ok in sym (got-inj [] j.excuses x.at-excuses x.last x.excuses_are)
+none-excused s j ok = let x = sections One s j ok in sym (got-inj [] j.excuses x.at_excuses x.last x.excuses_are)

@@ -149,10 +149,10 @@ place-small f s w h = omega (arith, (job-near f).faulty s w (refused-inv (job f 
 pub accepted-short : (f : Form) (s : List ℕ) (j : Job) → read_job f s ≡ accepted j → length s ≤ longest f
 accepted-short f s j ok =
     let x = sections f s j ok in
-    let b = head-facts s x.top x.at-rules x.head-is in
-    let to-rules : x.at-rules ≤ 33 = near-head.found s x.top x.at-rules x.head-is in
-    let to-excuses : x.at-excuses ≤ x.at-rules + 7424 = (near-head-rules x.top x.at-rules b.0 b.1).found s j.rules x.at-excuses x.rules_are in
-    let to_end : x.last ≤ x.at-excuses + excuses_most f = (near-excuses f x.top.wires x.at-excuses b.0).found s j.excuses x.last x.excuses_are in
+    let b = head-facts s x.top x.at_rules x.head_is in
+    let to-rules : x.at_rules ≤ 33 = near-head.found s x.top x.at_rules x.head_is in
+    let to-excuses : x.at_excuses ≤ x.at_rules + 7424 = (near-head-rules x.top x.at_rules b.0 b.1).found s j.rules x.at_excuses x.rules_are in
+    let to_end : x.last ≤ x.at_excuses + excuses_most f = (near-excuses f x.top.wires x.at_excuses b.0).found s j.excuses x.last x.excuses_are in
     omega (arith, longest-is f, x.ends)
 
 pub first-decide : (f : Form) (s : List ℕ) → read_job f (take (longest f + 1) s) ≡ read_job f s

@@ -28,12 +28,12 @@ module _ (B : Board) (c n : ℕ) (at parent by at' parent' by' : ℕ → ℕ) (t
       }
     where
       earlier : (k : ℕ) → k < suc n → 0 < k → parent' k < k
-      earlier = below_suc (λ k. 0 < k → parent' k < k) n (λ k h p. rw (g.keeps-parent k h) (t.earlier k p h)) (λ p. g.from)
+      earlier = below_suc (λ k. 0 < k → parent' k < k) n (λ k h p. rw (g.keeps_parent k h) (t.earlier k p h)) (λ p. g.from)
 
       steps : (k : ℕ) → k < suc n → 0 < k → Step B (at' (parent' k)) (at' k) (by' k)
       steps =
           below_suc (λ k. 0 < k → Step B (at' (parent' k)) (at' k) (by' k)) n
-          (λ k h p. rw (g.keeps-parent k h, g.keeps (parent k) (omega (arith, t.earlier k p h)), g.keeps k h, g.keeps-by k h) (t.steps k p h))
+          (λ k h p. rw (g.keeps_parent k h, g.keeps (parent k) (omega (arith, t.earlier k p h)), g.keeps k h, g.keeps_by k h) (t.steps k p h))
           (λ p. rw (g.keeps (parent' n) g.from) g.step)
 
       distinct : (k : ℕ) → k < suc n → (j : ℕ) → j < k → at' j ≢ at' k
@@ -89,8 +89,8 @@ module _ (B : Board) (c n : ℕ) (at parent by : ℕ → ℕ) where
           trail-grows B c n at parent by (put n M at) (put n i parent) (put n a by) t
           (record {
             keeps = put-below n M at;
-            keeps-parent = put-below n i parent;
-            keeps-by = put-below n a by;
+            keeps_parent = put-below n i parent;
+            keeps_by = put-below n a by;
             from = rw (put_same n i parent) l;
             step = rw (put_same n i parent, put_same n M at, put_same n a by) s;
             fresh = rw (put_same n M at) fresh;

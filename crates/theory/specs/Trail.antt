@@ -26,8 +26,8 @@ module _ (B : Board) where
   -- at place n now stands a claim that was not there, by a step from place k
   pub record Grown (n : ℕ) (at parent by at' parent' by' : ℕ → ℕ) : Type 0 where
     pub keeps : Agree n at' at
-    pub keeps-parent : Agree n parent' parent
-    pub keeps-by : Agree n by' by
+    pub keeps_parent : Agree n parent' parent
+    pub keeps_by : Agree n by' by
     pub from : parent' n < n
     pub step : Step B (at (parent' n)) (at' n) (by' n)
     pub fresh : ¬ Has n at (at' n)
