@@ -5,11 +5,10 @@
 --     other-pins, unseen-a, unseen-b, more-rules, asks_rest      the ends, each after the parts before it
 -- Assumes nothing.
 use mathlib.Core.Path.{◌≡◌, refl, sym, ap, ◌∙◌}
-use mathlib.Core.Bool.{Bool, true, false, not, ◌&&◌}
+use mathlib.Core.Bool.{Bool, true, false, ◌&&◌}
 use mathlib.Core.List.{List}
 use Prim.Native.Nat.{ℕ, ◌+◌, ◌≤◌}
 use native.Mathlib.Omega.{arith}
-use borrow.Author.Tests.{not-true, not-false}
 use lib.ListN.{length, take, drop, length-take, length-drop}
 use Rattle.sheet.specs.declared.JobHead.{JobHead}
 use Rattle.sheet.specs.Job.{Job}
@@ -90,29 +89,29 @@ module _ (p q : List ℕ) (hp hq : JobHead) (rp rq : List ℕ) (P Q : Job) (tp :
         b_q = ap (λ (k : JobHead). k.sees_b) tq.head
 
     module _ (x : Bool) (is_x : x ≡ pins_alike) where
-      pub other-pins : not x ≡ true → false ≡ asksb P Q
-      other-pins e = fails-first _ _ _ asks-as (sym is_x ∙ not-true x e)
+      pub other-pins : x ≡ false → false ≡ asksb P Q
+      other-pins e = fails-first _ _ _ asks-as (sym is_x ∙ e)
 
-      module _ (okx : not x ≡ false) (y : Bool) (is_y : y ≡ sees_a) where
+      module _ (okx : x ≡ true) (y : Bool) (is_y : y ≡ sees_a) where
         after-pins : asksb P Q ≡ sees_a && (sees_b && (rules_all && excuses_all))
-        after-pins = after_first _ _ _ asks-as (sym is_x ∙ not-false x okx)
+        after-pins = after_first _ _ _ asks-as (sym is_x ∙ okx)
 
-        pub unseen-a : not y ≡ true → false ≡ asksb P Q
-        unseen-a e = fails-first _ _ _ after-pins (sym is_y ∙ not-true y e)
+        pub unseen-a : y ≡ false → false ≡ asksb P Q
+        unseen-a e = fails-first _ _ _ after-pins (sym is_y ∙ e)
 
-        module _ (oky : not y ≡ false) (z : Bool) (is-z : z ≡ sees_b) where
+        module _ (oky : y ≡ true) (z : Bool) (is-z : z ≡ sees_b) where
           after-a : asksb P Q ≡ sees_b && (rules_all && excuses_all)
-          after-a = after_first _ _ _ after-pins (sym is_y ∙ not-false y oky)
+          after-a = after_first _ _ _ after-pins (sym is_y ∙ oky)
 
-          pub unseen-b : not z ≡ true → false ≡ asksb P Q
-          unseen-b e = fails-first _ _ _ after-a (sym is-z ∙ not-true z e)
+          pub unseen-b : z ≡ false → false ≡ asksb P Q
+          unseen-b e = fails-first _ _ _ after-a (sym is-z ∙ e)
 
-          module _ (okz : not z ≡ false) (w : Bool) (is-w : w ≡ rules_all) where
+          module _ (okz : z ≡ true) (w : Bool) (is-w : w ≡ rules_all) where
             after-b : asksb P Q ≡ rules_all && excuses_all
-            after-b = after_first _ _ _ after-a (sym is-z ∙ not-false z okz)
+            after-b = after_first _ _ _ after-a (sym is-z ∙ okz)
 
-            pub more-rules : not w ≡ true → false ≡ asksb P Q
-            more-rules e = fails-first _ _ _ after-b (sym is-w ∙ not-true w e)
+            pub more-rules : w ≡ false → false ≡ asksb P Q
+            more-rules e = fails-first _ _ _ after-b (sym is-w ∙ e)
 
-            pub asks_rest : not w ≡ false → (v : Bool) → v ≡ all_within (take hq.excuses (behind hq rq)) (take hp.excuses (behind hp rp)) → v ≡ asksb P Q
-            asks_rest okw v is-v = is-v ∙ rw (behind-is hq rq, behind-is hp rp) (sym (after_first _ _ _ after-b (sym is-w ∙ not-false w okw)))
+            pub asks_rest : w ≡ true → (v : Bool) → v ≡ all_within (take hq.excuses (behind hq rq)) (take hp.excuses (behind hp rp)) → v ≡ asksb P Q
+            asks_rest okw v is-v = is-v ∙ rw (behind-is hq rq, behind-is hp rp) (sym (after_first _ _ _ after-b (sym is-w ∙ okw)))

@@ -13,37 +13,37 @@ pub same_pins-requires : goal.same_pins-requires
 same_pins-requires c = (pins-in _ _ _ _ _ c.requires.taken.1 refl, pins-in _ _ _ _ _ c.requires.taken_2.1 c.if-hp-hq.false)
 
 pub returns-then-not-same_pins : goal.returns-then-not-same_pins
-returns-then-not-same_pins c = λ P Q tp tq. other-pins _ _ _ _ _ _ P Q tp tq c.if-hp-hq.false _ c.same_pins.ensures c.if-not-same_pins.true-raw
+returns-then-not-same_pins c = λ P Q tp tq. other-pins _ _ _ _ _ _ P Q tp tq c.if-hp-hq.false _ c.same_pins.ensures c.if-not-same_pins.true
 
 pub returns-then-not-contains : goal.returns-then-not-contains
 returns-then-not-contains c = λ P Q tp tq.
-    unseen-a _ _ _ _ _ _ P Q tp tq c.if-hp-hq.false _ c.same_pins.ensures c.if-not-same_pins.false-raw _
+    unseen-a _ _ _ _ _ _ P Q tp tq c.if-hp-hq.false _ c.same_pins.ensures c.if-not-same_pins.false _
     c.contains.ensures
-    c.if-not-contains.true-raw
+    c.if-not-contains.true
 
 pub returns-then-not-contains-2 : goal.returns-then-not-contains-2
 returns-then-not-contains-2 c = λ P Q tp tq.
-    unseen-b _ _ _ _ _ _ P Q tp tq c.if-hp-hq.false _ c.same_pins.ensures c.if-not-same_pins.false-raw _
+    unseen-b _ _ _ _ _ _ P Q tp tq c.if-hp-hq.false _ c.same_pins.ensures c.if-not-same_pins.false _
     c.contains.ensures
-    c.if-not-contains.false-raw
+    c.if-not-contains.false
     _
     c.contains-2.ensures
-    c.if-not-contains-2.true-raw
+    c.if-not-contains-2.true
 
 pub all_within-requires : goal.all_within-requires
 all_within-requires c = (rules-in _ _ c.requires.taken.1, rules-in _ _ c.requires.taken_2.1)
 
 pub returns-then-not-all_within : goal.returns-then-not-all_within
 returns-then-not-all_within c = λ P Q tp tq.
-    more-rules _ _ _ _ _ _ P Q tp tq c.if-hp-hq.false _ c.same_pins.ensures c.if-not-same_pins.false-raw _
+    more-rules _ _ _ _ _ _ P Q tp tq c.if-hp-hq.false _ c.same_pins.ensures c.if-not-same_pins.false _
     c.contains.ensures
-    c.if-not-contains.false-raw
+    c.if-not-contains.false
     _
     c.contains-2.ensures
-    c.if-not-contains-2.false-raw
+    c.if-not-contains-2.false
     _
     c.all_within.ensures
-    c.if-not-all_within.true-raw
+    c.if-not-all_within.true
 
 pub slice_bounds-excuses_p-count : goal.slice_bounds-excuses_p-count
 slice_bounds-excuses_p-count c = rules-in _ _ c.requires.taken.1
@@ -64,14 +64,14 @@ all_within-requires-2 c = let p = excuses-there _ _ c.requires.taken.1.sized in
 
 pub returns : goal.returns
 returns c = λ P Q tp tq.
-    asks_rest _ _ _ _ _ _ P Q tp tq c.if-hp-hq.false _ c.same_pins.ensures c.if-not-same_pins.false-raw _
+    asks_rest _ _ _ _ _ _ P Q tp tq c.if-hp-hq.false _ c.same_pins.ensures c.if-not-same_pins.false _
     c.contains.ensures
-    c.if-not-contains.false-raw
+    c.if-not-contains.false
     _
     c.contains-2.ensures
-    c.if-not-contains-2.false-raw
+    c.if-not-contains-2.false
     _
     c.all_within.ensures
-    c.if-not-all_within.false-raw
+    c.if-not-all_within.false
     _
     c.all_within-2.ensures

@@ -14,7 +14,7 @@ use Rattle.sheet.specs.declared.JobHead.{JobHead}
 use Rattle.board.specs.declared.Broken.{Broken}
 use Rattle.board.specs.Tests.{stepb}
 use Rattle.board.specs.Tested.{tested, is_broken}
-use Rattle.board.specs.JobBoard.{head_board}
+use Rattle.board.specs.JobBoard.{head_board, Sized}
 use Rattle.board.proofs.Tested.{tested-broken}
 use Rattle.board.proofs.StepCases.{from-a, from-a-not, from-b, from-b-not, from-none}
 use Rattle.board.proofs.step_holds.Goals as goal
@@ -24,6 +24,10 @@ record Told (h : JobHead) (a of_a count_a of_b : ℕ) : Type 0 where
   row_a : of_a ≡ shown h.wires h.sees_a a
   many : count_a ≡ 2 ^ ones h.sees_a
   row_b : of_b ≡ shown h.wires h.sees_b a
+
+told : {h : JobHead} {masks : List ℕ} {a of_a count_a of_b : ℕ} → Sized h masks → ((n : ℕ) → h.sees_a < 2 ^ n → of_a ≡ shown n h.sees_a a) → count_a ≡ 2 ^ ones h.sees_a
+    → ((n : ℕ) → h.sees_b < 2 ^ n → of_b ≡ shown n h.sees_b a) → Told h a of_a count_a of_b
+told {h} sized in_a many in_b = record { row_a = in_a h.wires sized.mask_a; many = many; row_b = in_b h.wires sized.mask_b }
 
 module _ (h : JobHead) (masks : List ℕ) (L M a of_a count_a of_b : ℕ) (l : a < 2 ^ h.wires) (t : Told h a of_a count_a of_b) where
   both-a : (f : Broken) (r : Bool) → f ≡ tested (head_board h masks) a (L % 2) (1 - M % 2) → r ≡ is_broken f → L / 2 ≡ of_a → M / 2 ≡ count_a + of_b
@@ -50,16 +54,16 @@ pub overflow_add-of_b : goal.overflow_add-of_b
 overflow_add-of_b c = omega (arith, pow_mono c.requires.sized.sees_a, pow_mono c.requires.sized.sees_b)
 
 pub returns-then-to-of_b : goal.returns-then-to-of_b
-returns-then-to-of_b c = both-a c.args.h c.args.masks.now c.args.l.0 c.args.m.0 _ _ _ _ c.requires.a_bound (record { row_a = c.row_shown-of_a.ensures.row _ c.requires.sized.mask_a; many = c.row_count.ensures; row_b = c.row_shown.ensures.row _ c.requires.sized.mask_b }) _ _ c.test.ensures c.is_broken.ensures c.if-from-of_a.true c.if-to-of_b.true
+returns-then-to-of_b c = both-a c.args.h c.args.masks.now c.args.l.0 c.args.m.0 _ _ _ _ c.requires.a_bound (told c.requires.sized c.row_shown-of_a.ensures.row c.row_count.ensures c.row_shown.ensures.row) _ _ c.test.ensures c.is_broken.ensures c.if-from-of_a.true c.if-to-of_b.true
 
 pub returns-then-from-of_a : goal.returns-then-from-of_a
-returns-then-from-of_a c = not-b c.args.h c.args.masks.now c.args.l.0 c.args.m.0 _ _ _ _ c.requires.a_bound (record { row_a = c.row_shown-of_a.ensures.row _ c.requires.sized.mask_a; many = c.row_count.ensures; row_b = c.row_shown.ensures.row _ c.requires.sized.mask_b }) c.if-from-of_a.true c.if-to-of_b.false
+returns-then-from-of_a c = not-b c.args.h c.args.masks.now c.args.l.0 c.args.m.0 _ _ _ _ c.requires.a_bound (told c.requires.sized c.row_shown-of_a.ensures.row c.row_count.ensures c.row_shown.ensures.row) c.if-from-of_a.true c.if-to-of_b.false
 
 pub returns-then-to-of_a : goal.returns-then-to-of_a
-returns-then-to-of_a c = both-b c.args.h c.args.masks.now c.args.l.0 c.args.m.0 _ _ _ _ c.requires.a_bound (record { row_a = c.row_shown-of_a.ensures.row _ c.requires.sized.mask_a; many = c.row_count.ensures; row_b = c.row_shown.ensures.row _ c.requires.sized.mask_b }) _ _ c.test-then-to-of_a.ensures c.is_broken-then-to-of_a.ensures c.if-from-of_b.true c.if-to-of_a.true
+returns-then-to-of_a c = both-b c.args.h c.args.masks.now c.args.l.0 c.args.m.0 _ _ _ _ c.requires.a_bound (told c.requires.sized c.row_shown-of_a.ensures.row c.row_count.ensures c.row_shown.ensures.row) _ _ c.test-then-to-of_a.ensures c.is_broken-then-to-of_a.ensures c.if-from-of_b.true c.if-to-of_a.true
 
 pub returns-else-to-of_a : goal.returns-else-to-of_a
-returns-else-to-of_a c = not_a c.args.h c.args.masks.now c.args.l.0 c.args.m.0 _ _ _ _ c.requires.a_bound (record { row_a = c.row_shown-of_a.ensures.row _ c.requires.sized.mask_a; many = c.row_count.ensures; row_b = c.row_shown.ensures.row _ c.requires.sized.mask_b }) c.if-from-of_b.true c.if-to-of_a.false
+returns-else-to-of_a c = not_a c.args.h c.args.masks.now c.args.l.0 c.args.m.0 _ _ _ _ c.requires.a_bound (told c.requires.sized c.row_shown-of_a.ensures.row c.row_count.ensures c.row_shown.ensures.row) c.if-from-of_b.true c.if-to-of_a.false
 
 pub returns-else-from-of_b : goal.returns-else-from-of_b
-returns-else-from-of_b c = neither c.args.h c.args.masks.now c.args.l.0 c.args.m.0 _ _ _ _ c.requires.a_bound (record { row_a = c.row_shown-of_a.ensures.row _ c.requires.sized.mask_a; many = c.row_count.ensures; row_b = c.row_shown.ensures.row _ c.requires.sized.mask_b }) c.if-from-of_a.false c.if-from-of_b.false
+returns-else-from-of_b c = neither c.args.h c.args.masks.now c.args.l.0 c.args.m.0 _ _ _ _ c.requires.a_bound (told c.requires.sized c.row_shown-of_a.ensures.row c.row_count.ensures c.row_shown.ensures.row) c.if-from-of_a.false c.if-from-of_b.false

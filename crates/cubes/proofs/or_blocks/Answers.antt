@@ -1,31 +1,27 @@
 -- `cubes::or_blocks` meets its contract, by its invariant. Assumes nothing.
 use mathlib.Core.Path.{◌∙◌}
-use Prim.Native.Nat.{◌+◌, ◌-◌, ◌<◌}
+use Prim.Native.Nat.{◌-◌}
 use native.Mathlib.Omega.{arith}
 use lib.Bits.{and_self, and_le_l}
 use Rattle.cubes.proofs.Parts.{part-le, and-within}
 use Rattle.cubes.proofs.Words.{none_yet, last, next}
 use Rattle.cubes.proofs.or_blocks.Goals as goal
-use Rattle.cubes.proofs.or_blocks.Goals.{At-loop-sub}
-
-below : (c : At-loop-sub) → c.args.base + c.loop-sub.sub < 256
-below c = omega (arith, part-le c.loop-sub.sub c.args.free c.loop-sub.invariant.0)
 
 pub loop-sub-init : goal.loop-sub-init
 loop-sub-init c = (and_self c.args.free, none_yet _ _ _ _ _)
 
 pub overflow_add-base : goal.overflow_add-base
-overflow_add-base c = omega (arith, below c.before)
+overflow_add-base c = omega (arith, part-le c.loop-sub.sub c.args.free c.loop-sub.invariant.0)
 
 pub overflow_cast-base : goal.overflow_cast-base
-overflow_cast-base c = omega (arith, below c.before)
+overflow_cast-base c = omega (arith, part-le c.loop-sub.sub c.args.free c.loop-sub.invariant.0)
 
 pub overflow_mul-base : goal.overflow_mul-base
-overflow_mul-base c = omega (arith, below c.before)
+overflow_mul-base c = omega (arith, part-le c.loop-sub.sub c.args.free c.loop-sub.invariant.0)
 
 pub or_block-requires : goal.or_block-requires
 or_block-requires c = record {
-  w_bound = omega (arith, below c.before);
+  w_bound = omega (arith, part-le c.loop-sub.sub c.args.free c.loop-sub.invariant.0);
   table_len = c.loop-sub.invariant.1.size ∙ c.requires.table_len;
 }
 

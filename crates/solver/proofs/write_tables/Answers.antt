@@ -4,7 +4,7 @@ use Rattle.solver.proofs.Writing.{front_length, first-room, second-room, third-r
 use Rattle.solver.proofs.write_tables.Goals as goal
 
 pub slice_bounds-write_table-end : goal.slice_bounds-write_table-end
-slice_bounds-write_table-end c = sym (front_length _ _ c.before.before.before.before.requires.0)
+slice_bounds-write_table-end c = sym (front_length _ _ c.requires.0)
 
 pub write_table-at_b-requires : goal.write_table-at_b-requires
 write_table-at_b-requires c = first-room _ _ c.requires.0 c.requires.1 c.args.answer.now c.requires.2

@@ -1,6 +1,5 @@
 -- `widener::widen_both` meets its contract: the checker's outcome, then the other causes of refusal in their order, then the widened sheet. Assumes nothing.
 use mathlib.Core.Path.{sym, ◌∙◌}
-use borrow.Author.Tests.{not-true, not-false}
 use Rattle.widener.proofs.Ends.{ends-walk, ends-checked, wide-asks, ends-asks, ends-room, ends-written}
 use Rattle.widener.proofs.widen_both.Goals as goal
 
@@ -21,7 +20,7 @@ returns-then-not-asks_no_more c = λ P Q tp tq.
     ends-asks _ _ _ _ _ _ _ _ _ _ tp tq
     c.check_answer-checked.ensures
     c.if-checked-ne20.false
-    (sym asked ∙ not-true _ c.if-not-asks_no_more.true-raw)
+    (sym asked ∙ c.if-not-asks_no_more.true)
     c.refused-then-not-asks_no_more.ensures
 
 pub returns-then-out-lt-LONGEST : goal.returns-then-out-lt-LONGEST
@@ -30,7 +29,7 @@ returns-then-out-lt-LONGEST c = λ P Q tp tq.
     ends-room _ _ _ _ _ _ _ _ _ _ tp tq
     c.check_answer-checked.ensures
     c.if-checked-ne20.false
-    (sym asked ∙ not-false _ c.if-not-asks_no_more.false-raw)
+    (sym asked ∙ c.if-not-asks_no_more.false)
     c.if-out-lt-LONGEST.true
     c.refused-then-out-lt-LONGEST.ensures
 
@@ -46,7 +45,7 @@ returns c = λ P Q tp tq.
     ends-written _ _ _ _ _ _ _ _ _ _ tp tq
     c.check_answer-checked.ensures
     c.if-checked-ne20.false
-    (sym asked ∙ not-false _ c.if-not-asks_no_more.false-raw)
+    (sym asked ∙ c.if-not-asks_no_more.false)
     c.write_wide-written.ensures
     c.if-out-lt-LONGEST.false
     c.succeeded.ensures
