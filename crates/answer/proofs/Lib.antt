@@ -1,3 +1,4 @@
+pub mod Pieces
 pub mod Many
 pub mod Sections
 pub mod Length

@@ -6,9 +6,8 @@
 -- Assumes nothing.
 use mathlib.Core.Path.{◌≡◌, refl, sym, ap, ◌∙◌}
 use mathlib.Core.List.{List, [], ◌∷◌}
-use Prim.Native.Nat.{ℕ, zero, suc, ◌-◌, ◌≤◌, ◌<◌}
+use Prim.Native.Nat.{ℕ, zero, suc, ◌≤◌, ◌<◌}
 use native.Mathlib.Nat.{not-suc-le-zero}
-use native.Mathlib.Omega.{arith}
 use lib.ListN.{length}
 use Rattle.steps.specs.declared.Refusal.{Refusal}
 use Rattle.steps.specs.Step.{got, refused, next, Reading}
@@ -30,13 +29,11 @@ entries-many claims combinations = record { none = λ s at. refl; more = λ n s 
 module _ {A : Type 0} {one : Reading A} {many : ℕ → Reading (List A)} (is : Many one many) where
   -- `left` of n are left, and the first of them was found, or refused
   module _ (n : ℕ) (s : List ℕ) (at : ℕ) where
-    pub many-go : (left : ℕ) (x : A) (a : ℕ) → 0 < left → one s at ≡ got x a
-        → next (many left s at) (λ xs q. got n q) ≡ next (many (left - 1) s a) (λ xs q. got n q)
-    many-go zero x a l h = absurd (not-suc-le-zero l)
-    many-go (suc m) x a l h =
-        let p : m ≡ suc m - 1 = omega arith in
-        rw (is.more m s at, h)
-        (assoc (many m s a) (λ xs q. got (x ∷ xs) q) (λ xs q. got n q) ∙ ap (λ (j : ℕ). next (many j s a) (λ xs q. got n q)) p)
+    pub many-go : (left rest : ℕ) (x : A) (a : ℕ) → left ≡ suc rest → one s at ≡ got x a
+        → next (many left s at) (λ xs q. got n q) ≡ next (many rest s a) (λ xs q. got n q)
+    many-go left rest x a l h =
+        rw (l, is.more rest s at, h)
+        (assoc (many rest s a) (λ xs q. got (x ∷ xs) q) (λ xs q. got n q))
 
     pub many-stop : (left : ℕ) (w : Refusal) → 0 < left → one s at ≡ refused w → next (many left s at) (λ xs q. got n q) ≡ refused w
     many-stop zero w l h = absurd (not-suc-le-zero l)

@@ -17,7 +17,8 @@ use Rattle.steps.specs.Step.{Step, got, refused, next, pick}
 use Rattle.steps.specs.Bytes.{end}
 use Rattle.steps.proofs.Entries.{next-inv, got-inj}
 use Rattle.steps.proofs.Steps.{through_not}
-use Rattle.answer.specs.declared.AnswerRead.TheVariants.{Tables, Walk}
+use Rattle.std.specs.Prelude.{Ok}
+use Rattle.answer.specs.declared.AnswerKind.TheVariants.{Tables, Walk}
 use Rattle.answer.specs.Answer.{Entry, Answer, tables, walk, answered, rejected}
 use Rattle.answer.specs.AnswerSheet.{exactly, kind_count, walk_count, bits, below, entry, entries, tables_rest, walk_rest, answer, verdict_of, read_answer}
 use Rattle.answer.specs.AnswerFound.{bits_pass, entries_pass, tables_pass, walk_pass, count_of, as_answer}
@@ -123,13 +124,13 @@ module _ (rows_a rows_b combinations : ℕ) (s : List ℕ) where
       unfolding walk_pass
       no_walk w p = is-walk ∙ ap verdict_of (through_not (walk_rest (2 * (rows_a + rows_b)) combinations s m) count_of w p)
 
-      pub walk-found : (v q : ℕ) → walk_pass (2 * (rows_a + rows_b)) combinations s m ≡ got v q → Walk v ≡ as_answer (read_answer rows_a rows_b combinations s)
+      pub walk-found : (v q : ℕ) → walk_pass (2 * (rows_a + rows_b)) combinations s m ≡ got v q → Ok (Walk v) ≡ as_answer (read_answer rows_a rows_b combinations s)
       unfolding walk_pass
       walk-found v q p =
           let i = next-inv (walk_rest (2 * (rows_a + rows_b)) combinations s m) _ v q p in
           let es = walk-shape (2 * (rows_a + rows_b)) combinations s m i.0 i.1 i.2 in
           let long : length es.0 ≡ v = ap count_of (sym es.1) ∙ got-inj _ _ _ _ i.3 in
-          sym (ap as_answer (is-walk ∙ ap verdict_of i.2 ∙ ap answered es.1) ∙ ap Walk long)
+          sym (ap as_answer (is-walk ∙ ap verdict_of i.2 ∙ ap answered es.1) ∙ ap (λ (k : ℕ). Ok (Walk k)) long)
 
     module _ (z : n ≡ 0 → ⊥) where
       pub is-tables : read_answer rows_a rows_b combinations s ≡ verdict_of (tables_rest rows_a rows_b s m)
@@ -140,7 +141,7 @@ module _ (rows_a rows_b combinations : ℕ) (s : List ℕ) where
       unfolding tables_pass
       no-tables w p = is-tables ∙ ap verdict_of (through_not (tables_rest rows_a rows_b s m) count_of w p)
 
-      pub tables-found : (v q : ℕ) → tables_pass rows_a rows_b s m ≡ got v q → Tables ≡ as_answer (read_answer rows_a rows_b combinations s)
+      pub tables-found : (v q : ℕ) → tables_pass rows_a rows_b s m ≡ got v q → Ok Tables ≡ as_answer (read_answer rows_a rows_b combinations s)
       unfolding tables_pass
       tables-found v q p =
           let i = next-inv (tables_rest rows_a rows_b s m) _ v q p in

@@ -1,8 +1,9 @@
--- What the answer reader's enum says of the definitions' answers. Assumes nothing: these are definitions.
-use Rattle.std.specs.Prelude.{ℕ, length}
+-- What the answer reader answers of the definitions' answers. Assumes nothing: these are definitions.
+use Rattle.std.specs.Prelude.{ℕ, length, Result, Ok, Err}
 use Rattle.steps.specs.Step.{Reading, ◌>>=◌, give}
-use Rattle.answer.specs.declared.AnswerRead.{AnswerRead}
-use Rattle.answer.specs.declared.AnswerRead.TheVariants.{Tables, Walk, Refused}
+use Rattle.steps.specs.declared.Refusal.{Refusal}
+use Rattle.answer.specs.declared.AnswerKind.{AnswerKind}
+use Rattle.answer.specs.declared.AnswerKind.TheVariants.{Tables, Walk}
 use Rattle.answer.specs.Answer.{Answer, tables, walk, AnswerVerdict, answered, rejected}
 use Rattle.answer.specs.AnswerSheet.{bits, entries, tables_rest, walk_rest}
 
@@ -34,7 +35,7 @@ walk_pass claims combinations = do
   give (count_of w)
 
 -- what the answer reader answers
-abbrev pub as_answer : AnswerVerdict → AnswerRead
-as_answer (answered (tables xs ys)) = Tables
-as_answer (answered (walk es)) = Walk (length es)
-as_answer (rejected w) = Refused w
+abbrev pub as_answer : AnswerVerdict → Result AnswerKind Refusal
+as_answer (answered (tables xs ys)) = Ok Tables
+as_answer (answered (walk es)) = Ok (Walk (length es))
+as_answer (rejected w) = Err w

@@ -1,15 +1,10 @@
 -- The tests of specs/Asks decide the meaning.
+--     pins_decide      two lists of pins are equal
 --     asks-iff         a job asks no more than another
 -- Assumes nothing.
-use mathlib.Core.Path.{◌≡◌, refl}
-use mathlib.Core.Bool.{true, false≢true, and-eq-true_iff}
-use mathlib.Core.List.{List, [], ◌∷◌}
-use mathlib.Core.Logic.{◌↔◌}
-use Prim.Native.Nat.{ℕ, zero, suc, ◌<◌}
-use native.Mathlib.Omega.{arith}
-use lib.Dec.{eqb}
-use lib.ListN.{length, get_or}
-use borrow.Author.Tests.{eqb-true, eq-eqb}
+use Rattle.std.proofs.Common.{◌≡◌, ℕ, zero, suc, ◌<◌, true, ◌↔◌, Decides, List, [], ◌∷◌, length, get_or, refl, arith, rules}
+use mathlib.Core.Bool.{and-eq-true_iff}
+use Rattle.std.proofs.lemmas.Slice.Eq.{compares_Decides}
 use Rattle.wires.specs.Terms.{containsb, some_within}
 use Rattle.wires.proofs.Sets.{contains-iff, Within, some_to, some-from}
 use Rattle.sheet.specs.Job.{Job}
@@ -18,24 +13,9 @@ use Rattle.asking.specs.Asks.{AsksNoMore, same_pins, all_within, asksb}
 
 -- ---- pins
 
-pins-to : (xs ys : List ℕ) → same_pins xs ys ≡ true → xs ≡ ys
+pub pins_decide : (xs ys : List ℕ) → Decides (same_pins xs ys) (xs ≡ ys)
 unfolding same_pins
-pins-to [] [] e = refl
-pins-to [] (y ∷ ys) e = absurd (false≢true e)
-pins-to (x ∷ xs) [] e = absurd (false≢true e)
-pins-to (x ∷ xs) (y ∷ ys) e =
-    let t = (and-eq-true_iff (eqb x y) (same_pins xs ys)).0 e in
-    let first = eqb-true x y t.0 in
-    let rest = pins-to xs ys t.1 in
-    (λ k. first k ∷ rest k)
-
-pins_self : (xs : List ℕ) → same_pins xs xs ≡ true
-unfolding same_pins
-pins_self [] = refl
-pins_self (x ∷ xs) = and_both (eq-eqb x x refl) (pins_self xs)
-
-pins-from : (xs ys : List ℕ) → xs ≡ ys → same_pins xs ys ≡ true
-pins-from xs ys e = rw (← e) (pins_self xs)
+pins_decide = compares_Decides same_pins (search rules)
 
 -- ---- sets
 
@@ -62,7 +42,7 @@ asks-to P Q e =
     let c = (and-eq-true_iff (containsb Q.sees_b P.sees_b) _).0 b.1 in
     let d = (and-eq-true_iff (all_within P.rules Q.rules) _).0 c.1 in
     record {
-      pins = pins-to P.pins Q.pins a.0;
+      pins = (pins_decide P.pins Q.pins).0 a.0;
       sees_a = (contains-iff Q.sees_a P.sees_a).0 b.0;
       sees_b = (contains-iff Q.sees_b P.sees_b).0 c.0;
       rules = all-to P.rules Q.rules d.0;
@@ -72,7 +52,7 @@ asks-to P Q e =
 asks-from : (P Q : Job) → AsksNoMore P Q → asksb P Q ≡ true
 unfolding asksb
 asks-from P Q h =
-    and_both (pins-from P.pins Q.pins h.pins)
+    and_both ((pins_decide P.pins Q.pins).1 h.pins)
     (and_both ((contains-iff Q.sees_a P.sees_a).1 h.sees_a)
     (and_both ((contains-iff Q.sees_b P.sees_b).1 h.sees_b)
     (and_both (all_from P.rules Q.rules h.rules) (all_from Q.excuses P.excuses h.excuses))))

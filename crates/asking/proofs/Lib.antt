@@ -1,3 +1,2 @@
-pub mod Within
 pub mod Asking
 pub mod Asked

@@ -1,2 +1,3 @@
 pub mod Asks
 pub mod Taking
+pub mod Taken

@@ -1,35 +1,25 @@
 -- What `merge` leaves in the state: the loop over the rows, and what it means for a board.
---     picks-0, picks-1, picks-old    what a row holds, by the marks of its two claims
---     Done                           the loop's invariant: the rows below r are done, and the others are as they were
---     merged                         the state that `merge` leaves is the state with the spread of the marked claims merged in
+--     Done      the loop's invariant: the rows below r are done, and the others are as they were
+--     merged    the state that `merge` leaves is the state with the spread of the marked claims merged in
 -- Assumes nothing.
 use mathlib.Core.Path.{◌≡◌, refl, ◌∙◌, subst}
 use mathlib.Core.Bool.{Bool, true, false}
 use mathlib.Core.List.{List}
 use mathlib.Core.Logic.{◌⊎◌, inl, inr}
-use Prim.Native.Nat.{ℕ, ◌+◌, ◌*◌, ◌≤◌, ◌<◌}
-use native.Mathlib.Decide.{ℕ_discrete}
+use Prim.Native.Nat.{ℕ, ◌≤◌, ◌<◌}
 use native.Mathlib.Omega.{arith}
-use borrow.Author.Tests.{eq-eqb, ne_eqb, lt-ltb}
+use borrow.Author.Tests.{lt-ltb}
 use lib.Dec.{eqb}
-use lib.ListN.{length, get_or, set, length-set}
-use lib.Seq.{get_or-set_same, get_or-set_other}
+use lib.ListN.{length, get_or}
 use Rattle.board.specs.Board.{rows, row, claim, opposite}
 use Rattle.board.specs.Tables.{held, True}
 use Rattle.board.proofs.Claims.{claim-cases, opposite-zero}
 use Rattle.theory.specs.Solve.{Good, Merged}
-use Rattle.grid.specs.Grid.{Grid, claims, grid_board}
-use Rattle.scan.specs.Reach.{Store, mark, marked}
+use Rattle.grid.specs.Grid.{claims, grid_board}
+use Rattle.grid.specs.Grid.{Grid}
+use Rattle.scan.specs.Reach.{mark, marked}
+use Rattle.scan.specs.declared.Store.{Store}
 use Rattle.attempt.specs.Merge.{settled, MergedBy}
-
-pub picks-0 : (x y z : ℕ) → x ≡ 1 → 0 ≡ settled x y z
-picks-0 x y z e = rw (eq-eqb x 1 e)
-
-pub picks-1 : (x y z : ℕ) → (x ≡ 1 → ⊥) → y ≡ 1 → 1 ≡ settled x y z
-picks-1 x y z n e = rw (ne_eqb x 1 n, eq-eqb y 1 e)
-
-pub picks-old : (x y z : ℕ) → (x ≡ 1 → ⊥) → (y ≡ 1 → ⊥) → z ≡ settled x y z
-picks-old x y z n m = rw (ne_eqb x 1 n, ne_eqb y 1 m)
 
 -- ---- the loop
 
@@ -38,29 +28,6 @@ pub record Done (m s₀ s : List ℕ) (r : ℕ) : Type 0 where
   pub long : length s ≡ length s₀
   pub done : (i : ℕ) → i < r → get_or s i 0 ≡ settled (get_or m (claim i 0) 0) (get_or m (claim i 1) 0) (get_or s₀ i 0)
   pub rest : (i : ℕ) → r ≤ i → get_or s i 0 ≡ get_or s₀ i 0
-
-pub done-start : (m s : List ℕ) → Done m s s 0
-done-start m s = record { upto = omega arith; long = refl; done = λ i h. absurd (omega arith); rest = λ i h. refl }
-
-module _ {m s₀ s : List ℕ} {r : ℕ} (d : Done m s₀ s r) where
-  pub done-turn : (v : ℕ) → r < length s → v ≡ settled (get_or m (2 * r) 0) (get_or m (2 * r + 1) 0) (get_or s r 0) → Done m s₀ (set s r v) (r + 1)
-  done-turn v h e =
-      record {
-        upto = omega (arith, d.long);
-        long = length-set s r v ∙ d.long;
-        done = λ i l. go i l (ℕ_discrete i r);
-        rest = λ i l. get_or-set_other s r i v 0 (omega arith) ∙ d.rest i (omega arith);
-      }
-    where
-      zero-claim : 2 * r ≡ claim r 0
-      zero-claim = omega arith
-
-      go : (i : ℕ) → i < r + 1 → Dec (i ≡ r) → get_or (set s r v) i 0 ≡ settled (get_or m (claim i 0) 0) (get_or m (claim i 1) 0) (get_or s₀ i 0)
-      go i l (no n) = get_or-set_other s r i v 0 n ∙ d.done i (omega arith)
-      go i l (yes p) = rw (p, get_or-set_same s r v 0 h, e, d.rest r (omega arith), ← zero-claim)
-
-  pub done_end : length s ≤ r → MergedBy m s₀ s
-  done_end h = record { long = d.long; rows = λ i l. d.done i (omega (arith, d.long)) }
 
 -- ---- what it means for a board
 

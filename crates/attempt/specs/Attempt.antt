@@ -4,15 +4,15 @@
 --     Half                     half of a walk is written, and the state stays
 --     Attempts, Attempted      one spread from claim c of the next row: it settles rows, or half of a walk is written
 -- Assumes nothing: these are definitions.
-use Rattle.std.specs.Prelude.{◌≡◌, List, ◌++◌, ℕ, suc, ◌+◌, ◌*◌, ◌<◌, ◌≤◌, length, take, drop}
+use Rattle.std.specs.Prelude.{◌≡◌, List, ◌++◌, ℕ, suc, ◌+◌, ◌*◌, ◌<◌, ◌≤◌, length, take, drop, Option, MatchOption}
 use Rattle.answer.specs.Answer.{Entry}
 use Rattle.answer.specs.Written.{fours}
 use Rattle.board.specs.Board.{Board, rows, row, value, claim}
 use Rattle.board.specs.Tables.{held}
 use Rattle.board.specs.Walk.{Reaches}
 use Rattle.theory.specs.Solve.{Settling}
-use Rattle.grid.specs.Grid.{Grid, claims, Sound, grid_board}
-use Rattle.scan.specs.Reach.{Store, Room}
+use Rattle.grid.specs.Grid.{claims, grid_board}
+use Rattle.grid.specs.Grid.{Grid}
 use Rattle.spread.specs.Walk.{HalfWalk}
 
 -- row r is next, is not settled, and is tried with bit v; with 1 only where its 0 claim reaches its 1 claim
@@ -23,9 +23,7 @@ pub record Trying (B : Board) (r v : ℕ) (S : List ℕ) : Type 0 where
   pub bit : v < 2
   pub forced : v ≡ 1 → Reaches B (claim r 0) (claim r 1)
 
-pub record Attempts (g : Grid) (s : Store) (c : ℕ) (S W : List ℕ) (at : ℕ) : Type 0 where
-  pub sound : Sound g
-  pub room : Room g s
+pub record Attempts (g : Grid) (c : ℕ) (S W : List ℕ) (at : ℕ) : Type 0 where
   pub trying : Trying (grid_board g) (row c) (value c) S
   pub space : at + 4 * claims g ≤ length W + 4
 
@@ -37,8 +35,7 @@ pub record Half (g : Grid) (c : ℕ) (S W : List ℕ) (at : ℕ) (S' W' : List �
   pub end_is : end ≡ at + 4 * length entries
   pub bytes : W' ≡ take at W ++ fours entries ++ drop end W
 
-pub record Attempted (g : Grid) (c : ℕ) (S W : List ℕ) (at : ℕ) (t : Store) (S' W' : List ℕ) (end : ℕ) : Type 0 where
-  pub room : Room g t
+-- `None` where the rows are settled, else the place after half of a walk
+pub record Attempted (g : Grid) (c : ℕ) (S W : List ℕ) (at : ℕ) (S' W' : List ℕ) (end : Option ℕ) : Type 0 where
   pub long_walk : length W' ≡ length W
-  pub settles : end ≡ 0 → Settling (grid_board g) S' (suc (row c))
-  pub fails : (end ≡ 0 → ⊥) → Half g c S W at S' W' end
+  pub ends : MatchOption end (Settling (grid_board g) S' (suc (row c))) (Half g c S W at S' W')

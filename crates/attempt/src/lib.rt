@@ -3,12 +3,13 @@
 #![tactic(auto)]
 
 ghost use Rattle.std.specs.Prelude.{◌≡◌, ◌*◌, ◌≤◌, length};
-ghost use Rattle.grid.specs.Grid.{grid};
-ghost use Rattle.scan.specs.Reach.{store};
+ghost use Rattle.grid.specs.Held.{held};
 ghost use Rattle.attempt.specs.Merge.{settled, MergedBy};
 ghost use Rattle.attempt.specs.Attempt.{Attempts, Attempted};
 
-use grid::Shape;
+use answer::page::Page;
+use grid::Grid;
+use scan::Store;
 use spread::{opposite, spread, write_back};
 use wires::Claim;
 
@@ -30,38 +31,32 @@ fn merge(reached: &[u8], state: &mut [u8])
     requires { 2 * length state.old ≤ length reached.now }
     ensures { MergedBy reached.now state.old state.new }
 {
-    let mut r = 0;
-    while r < state.len() {
-        state[r] = settled_by(reached[2 * r], reached[2 * r + 1], state[r]);
-        r += 1;
+    for (r, held) in state.iter_mut().enumerate() {
+        *held = settled_by(reached[2 * r], reached[2 * r + 1], *held);
     }
 }
 
-// Spreads from `start`. A good spread settles the rows that it reached, and the answer is 0; else half of a walk, from
+// Spreads from `start`. A good spread settles the rows that it reached, and the answer is `None`; else half of a walk, from
 // `start` to its opposite, is written to `walk` from `at` on, and the answer is the place after it.
 pub fn attempt(
-    shape: Shape,
-    row_a: &[u8],
-    row_b: &[u8],
-    faults: &[u8],
+    grid: &Grid,
     start: Claim,
-    reached: &mut [u8],
-    queue: &mut [u16],
-    from: &mut [u16],
-    by: &mut [u16],
+    store: &mut Store,
     state: &mut [u8],
     walk: &mut [u8],
     at: usize,
-) -> usize
-    requires { Attempts (grid shape row_a.now row_b.now faults.now) (store reached.old queue.old from.old by.old) start.0 state.old walk.old at }
-    ensures { Attempted (grid shape row_a.now row_b.now faults.now) start.0 state.old walk.old at (store reached.new queue.new from.new by.new) state.new walk.new result }
+) -> Option<usize>
+    requires { Attempts (held grid.now) start.0 state.old walk.old at }
+    ensures { Attempted (held grid.now) start.0 state.old walk.old at state.new walk.new result }
 {
-    let count = spread(shape, row_a, row_b, faults, start, reached, queue, from, by);
+    spread(grid, start, store);
     let target = opposite(start);
     let t = target.0 as usize;
-    if reached[t] == 0 {
-        merge(reached, state);
-        return 0;
+    if store.reached[t] == 0 {
+        merge(&store.reached, state);
+        return None;
     }
-    write_back(count, queue, from, by, start, target, walk, at)
+    let mut page = Page { bytes: walk, at };
+    write_back(store, start, target, &mut page);
+    Some(page.at)
 }

@@ -13,8 +13,8 @@ use Rattle.steps.specs.declared.Refusal.{Refusal}
 use Rattle.steps.specs.Outcome.{refused_job}
 use Rattle.sheet.specs.declared.Form.{Form}
 use Rattle.sheet.specs.declared.JobHead.{JobHead}
-use Rattle.sheet.specs.declared.JobRead.{JobRead}
-use Rattle.sheet.specs.declared.JobRead.TheVariants.{Accepted}
+use Rattle.std.specs.Prelude.{Result, Ok}
+use Rattle.steps.specs.declared.Refusal.{Refusal}
 use Rattle.sheet.specs.Job.{Job, accepted, rejected}
 use Rattle.sheet.specs.JobSheet.{read_job}
 use Rattle.sheet.specs.JobFound.{job_head, as_job, kept_masks}
@@ -66,7 +66,7 @@ module _ (f : Form) (s : List ℕ) (old : List ℕ) (room : length old ≡ 320) 
         excuses_are = es;
       }
 
-  pub taken : (x : JobRead) (h : JobHead) (masks : List ℕ) → x ≡ as_job (read_job f s) → x ≡ Accepted h → masks ≡ new → Taken f s h masks
+  pub taken : (x : Result JobHead Refusal) (h : JobHead) (masks : List ℕ) → x ≡ as_job (read_job f s) → x ≡ Ok h → masks ≡ new → Taken f s h masks
   taken x h masks e p q =
       let t = job-accepted f s x h e p in
       rw (q, t.2) (head-taken t.0 t.1)

@@ -6,15 +6,14 @@
 --     StandsSheet, check-21    and 21 exactly for the sheet of a walk of 1 to 2,046 entries that stands
 --     no-pair           where it says 21 no pair fits
 -- Assumes nothing.
-use mathlib.Core.Path.{◌≡◌, refl, sym, ap, subst, ◌∙◌}
-use mathlib.Core.Bool.{Bool, true, false, not, false≢true}
+use mathlib.Core.Path.{◌≡◌, refl, ap, subst, ◌∙◌}
+use mathlib.Core.Bool.{Bool, true, false, not}
 use mathlib.Core.List.{List, ◌++◌}
 use mathlib.Core.Logic.{◌↔◌, by_cases}
 use Prim.Native.Nat.{ℕ, suc, ◌+◌, ◌*◌, ◌-◌, ◌<◌, ◌≤◌}
 use native.Mathlib.Decide.{dec_lt}
-use native.Mathlib.Numerals.{add-one}
 use native.Mathlib.Omega.{arith}
-use borrow.Author.Tests.{lt-ltb, le-ltb, eq-eqb, ne_eqb, not-false}
+use borrow.Author.Tests.{lt-ltb, le-ltb, not-false}
 use lib.Count.{ones}
 use lib.Pow.{pow_pos}
 use lib.ListN.{length, get_or, length-append, get_or-append}
@@ -39,7 +38,7 @@ use Rattle.board.specs.JobBoard.{board_of, job_board}
 use Rattle.board.specs.Check.{fault_at, rule_at, judge_tables, next_of, step_at, judge_walk, judge, judge_sheet, after_job, check_outcome}
 use Rattle.board.proofs.Tests.{stepb-iff, amongb-iff}
 use Rattle.board.proofs.Numbered.{stands-iff, among-at, at-among}
-use Rattle.board.proofs.Lowest.{lowest-at, lowest-least, lowest-most}
+use Rattle.board.proofs.Lowest.{lowest-least, lowest-most, lowest-none}
 use Rattle.board.proofs.Walks.{soundness}
 use Rattle.board.proofs.Codes.{verdict_for, tables-not, walk-not}
 
@@ -54,19 +53,14 @@ module _ (B : Board) (T : List ℕ) where
 
   fits-to : judge_tables B T ≡ success 20 0 → Fits B T
   unfolding judge_tables
-  fits-to e a l = lowest-least (fault_at B T) B.combinations a (past (dec_lt low B.combinations))
-    where
-      past : Dec (low < B.combinations) → a < low
-      past (yes h) = absurd (codes-differ (rule_broken low (rule_at B T low)) (success 20 0) (λ z. omega arith) (rw (lt-ltb low B.combinations h) at e))
-      past (no h) = omega (arith, lowest-most (fault_at B T) B.combinations)
+  fits-to e a l =
+      lowest-least (fault_at B T) B.combinations a
+      (by_cases (dec_lt low B.combinations) (λ h. absurd (codes-differ (rule_broken low (rule_at B T low)) (success 20 0) (λ z. omega arith) (rw (lt-ltb low B.combinations h) at e)))
+      (λ ge. omega (arith, lowest-most (fault_at B T) B.combinations)))
 
   fits-from : Fits B T → judge_tables B T ≡ success 20 0
   unfolding judge_tables
-  fits-from f = rw (le-ltb low B.combinations (past (dec_lt low B.combinations)))
-    where
-      past : Dec (low < B.combinations) → B.combinations ≤ low
-      past (yes h) = absurd (false≢true (sym (f low h) ∙ lowest-at (fault_at B T) B.combinations h))
-      past (no h) = omega arith
+  fits-from f = rw (le-ltb low B.combinations (omega (arith, lowest-none (fault_at B T) B.combinations f)))
 
   pub judged-fits : (judge_tables B T ≡ success 20 0) ↔ Fits B T
   judged-fits = (fits-to, fits-from)
@@ -84,10 +78,10 @@ module _ (B : Board) (es : List Entry) (some : 0 < length es) where
   first = opposite (entry es 0).says
 
   next-on : (i : ℕ) → suc i < length es → next_of B es i ≡ suc i
-  next-on i l = let ne : i + 1 ≡ length es → ⊥ = λ z. omega arith in rw (ne_eqb (i + 1) (length es) ne) (add-one i)
+  next-on i l = grind arith
 
   next_last : (i : ℕ) → i + 1 ≡ length es → next_of B es i ≡ 0
-  next_last i e = rw (eq-eqb (i + 1) (length es) e)
+  next_last i e = grind arith
 
   -- every step of the walk holds
   abbrev All : Type 0
@@ -104,25 +98,15 @@ module _ (B : Board) (es : List Entry) (some : 0 < length es) where
   }
 
   at_all : StandsAt B es → All
-  at_all s i l = go (dec_lt (suc i) (length es))
-    where
-      go : Dec (suc i < length es) → step_at B es i ≡ true
-      go (yes h) = rw (next-on i h) ((stepb-iff B _ _ _).1 (s.onward i h))
-      go (no h) =
-          let e : i ≡ length es - 1 = omega arith in
-          rw (next_last i (omega arith), e) ((stepb-iff B _ _ _).1 s.back)
+  at_all s i l =
+      by_cases (dec_lt (suc i) (length es)) (λ h. rw (next-on i h) ((stepb-iff B _ _ _).1 (s.onward i h)))
+      (λ h. let e : i ≡ length es - 1 = omega arith in rw (next_last i (omega arith), e) ((stepb-iff B _ _ _).1 s.back))
 
   past_all : length es ≤ worst → All
   past_all l i h = not-false (step_at B es i) (lowest-least bad (length es) i (omega arith))
 
   all_past : All → length es ≤ worst
-  all_past all = go (dec_lt worst (length es))
-    where
-      go : Dec (worst < length es) → length es ≤ worst
-      go (yes h) =
-          let t : not (step_at B es worst) ≡ true = lowest-at bad (length es) h in
-          absurd (false≢true (sym (ap not (all worst h)) ∙ t))
-      go (no h) = omega arith
+  all_past all = omega (arith, lowest-none bad (length es) (λ i l. ap not (all i l)))
 
   stands-to : judge_walk B es ≡ success 21 0 → Stands B es
   unfolding judge_walk

@@ -4,25 +4,19 @@
 --     judge-rule, check-rule     whatever has another code than 10 carries the rule 0
 -- Assumes nothing.
 use mathlib.Core.Path.{◌≡◌, refl}
-use mathlib.Core.Bool.{Bool, true, false, not}
 use mathlib.Core.List.{List, ◌++◌}
 use mathlib.Core.Logic.{◌≢◌}
 use Prim.Native.Nat.{ℕ}
-use lib.Dec.{ltb}
-use lib.ListN.{length}
-use Rattle.steps.specs.Step.{pick}
-use Rattle.steps.specs.Outcome.{success, refusal, rule_broken}
+use native.Mathlib.Omega.{arith}
 use Rattle.sheet.specs.declared.Form.{Form}
 use Rattle.sheet.specs.Job.{Job, Verdict, accepted, rejected}
 use Rattle.sheet.specs.JobSheet.{read_job}
 use Rattle.answer.specs.Answer.{Entry, tables, walk, AnswerVerdict, answered}
 use Rattle.answer.specs.Answer.{rejected as unanswered}
 use Rattle.answer.specs.AnswerSheet.{read_answer}
-use Rattle.board.specs.Board.{Board, opposite}
-use Rattle.board.specs.Walk.{entry}
-use Rattle.board.specs.Tests.{lowest, amongb}
+use Rattle.board.specs.Board.{Board}
 use Rattle.board.specs.JobBoard.{job_board}
-use Rattle.board.specs.Check.{fault_at, step_at, judge_tables, judge_walk, judge, judge_sheet, after_job, check_outcome}
+use Rattle.board.specs.Check.{judge_tables, judge_walk, judge, judge_sheet, after_job, check_outcome}
 
 abbrev pub verdict_for : (answer : List ℕ) → Job → AnswerVerdict
 verdict_for answer j = read_answer (job_board j).rows_a (job_board j).rows_b (job_board j).combinations answer
@@ -30,37 +24,19 @@ verdict_for answer j = read_answer (job_board j).rows_a (job_board j).rows_b (jo
 module _ (B : Board) where
   pub tables-not : (T : List ℕ) (c : ℕ) → (10 ≢ c) → (20 ≢ c) → (judge_tables B T).code ≡ c → ⊥
   unfolding judge_tables
-  tables-not T c broken fits e = go (ltb (lowest (fault_at B T) B.combinations) B.combinations) _ _ e
-    where
-      go : (b : Bool) (m r : ℕ) → (pick b (rule_broken m r) (success 20 0)).code ≡ c → ⊥
-      go true m r z = broken z
-      go false m r z = fits z
+  tables-not T c broken fits e = grind arith
 
   pub walk-not : (es : List Entry) (c : ℕ) → (12 ≢ c) → (13 ≢ c) → (21 ≢ c) → (judge_walk B es).code ≡ c → ⊥
   unfolding judge_walk
-  walk-not es c step meets stands e = go (ltb (lowest (λ i. not (step_at B es i)) (length es)) (length es)) (amongb (opposite (entry es 0).says) es) _ e
-    where
-      go : (b d : Bool) (m : ℕ) → (pick b (refusal 12 2 m) (pick d (success 21 0) (refusal 13 2 0))).code ≡ c → ⊥
-      go true d m z = step z
-      go false true m z = stands z
-      go false false m z = meets z
+  walk-not es c step meets stands e = grind arith
 
   tables-rule : (T : List ℕ) → ((judge_tables B T).code ≢ 10) → (judge_tables B T).rule ≡ 0
   unfolding judge_tables
-  tables-rule T d = go (ltb (lowest (fault_at B T) B.combinations) B.combinations) _ _ d
-    where
-      go : (b : Bool) (m r : ℕ) → ((pick b (rule_broken m r) (success 20 0)).code ≡ 10 → ⊥) → (pick b (rule_broken m r) (success 20 0)).rule ≡ 0
-      go true m r z = absurd (z refl)
-      go false m r z = refl
+  tables-rule T d = grind arith
 
   walk-rule : (es : List Entry) → (judge_walk B es).rule ≡ 0
   unfolding judge_walk
-  walk-rule es = go (ltb (lowest (λ i. not (step_at B es i)) (length es)) (length es)) (amongb (opposite (entry es 0).says) es) _
-    where
-      go : (b d : Bool) (m : ℕ) → (pick b (refusal 12 2 m) (pick d (success 21 0) (refusal 13 2 0))).rule ≡ 0
-      go true d m = refl
-      go false true m = refl
-      go false false m = refl
+  walk-rule es = grind arith
 
   pub judge-rule : (v : AnswerVerdict) → ((judge B v).code ≢ 10) → (judge B v).rule ≡ 0
   judge-rule (answered (tables xs ys)) d = tables-rule (xs ++ ys) d

@@ -4,7 +4,7 @@
 --     tables-judged, walk-judged, refused-judged     the judgement of the bytes is that of the sheet
 -- Assumes nothing.
 use mathlib.Core.Path.{◌≡◌, refl, sym, ap, ap₂, ◌∙◌}
-use mathlib.Core.List.{List, [], ◌++◌}
+use mathlib.Core.List.{List, ◌++◌}
 use Prim.Native.Nat.{ℕ, ◌+◌, ◌*◌, ◌%◌, ◌^◌, ◌<◌, ◌≤◌}
 use native.Mathlib.Nat.{one-mul}
 use native.Mathlib.Omega.{arith}
@@ -19,15 +19,16 @@ use Rattle.steps.specs.declared.Refusal.{Refusal}
 use Rattle.steps.specs.Outcome.{refused_answer}
 use Rattle.sheet.specs.declared.JobHead.{JobHead}
 use Rattle.sheet.specs.JobSheet.{wire_limit}
-use Rattle.answer.specs.declared.AnswerRead.{AnswerRead}
-use Rattle.answer.specs.declared.AnswerRead.TheVariants.{Tables, Walk, Refused}
+use Rattle.std.specs.Prelude.{Result, Ok, Err}
+use Rattle.answer.specs.declared.AnswerKind.{AnswerKind}
+use Rattle.answer.specs.declared.AnswerKind.TheVariants.{Tables, Walk}
 use Rattle.answer.specs.Answer.{Entry, tables, walk, AnswerVerdict, answered, rejected}
 use Rattle.answer.specs.AnswerSheet.{read_answer}
 use Rattle.answer.specs.AnswerFound.{as_answer}
 use Rattle.answer.proofs.There.{tables-there, walk-there}
 use Rattle.board.specs.Board.{at_b}
 use Rattle.board.specs.Tables.{held}
-use Rattle.board.specs.JobBoard.{head_board}
+use Rattle.board.specs.JobBoard.{head_board, Sized}
 use Rattle.board.specs.Tested.{tested, rule_of}
 use Rattle.board.specs.Tests.{lowest}
 use Rattle.board.specs.Check.{fault_at, rule_at, tables_at, judge_tables, judge_sheet}
@@ -37,19 +38,19 @@ use Rattle.board.proofs.Walking.{Placed, walk-in}
 
 -- ---- what was told
 
-tables-are : (v : AnswerVerdict) → Tables ≡ as_answer v → (xs : List ℕ) × (ys : List ℕ) × (v ≡ answered (tables xs ys))
+tables-are : (v : AnswerVerdict) → Ok Tables ≡ as_answer v → (xs : List ℕ) × (ys : List ℕ) × (v ≡ answered (tables xs ys))
 tables-are (answered (tables xs ys)) e = (xs, ys, refl)
-tables-are (answered (walk es)) e = let z : ◌≡◌ {A = ℕ} 0 1 = cc in let no : ⊥ = omega arith in absurd no
-tables-are (rejected w) e = let z : ◌≡◌ {A = ℕ} 0 1 = cc in let no : ⊥ = omega arith in absurd no
+tables-are (answered (walk es)) e = cc
+tables-are (rejected w) e = cc
 
-walk_is : (v : AnswerVerdict) (k : ℕ) → Walk k ≡ as_answer v → (es : List Entry) × (v ≡ answered (walk es)) × (k ≡ length es)
-walk_is (answered (tables xs ys)) k e = let z : ◌≡◌ {A = ℕ} 0 1 = cc in let no : ⊥ = omega arith in absurd no
+walk_is : (v : AnswerVerdict) (k : ℕ) → Ok (Walk k) ≡ as_answer v → (es : List Entry) × (v ≡ answered (walk es)) × (k ≡ length es)
+walk_is (answered (tables xs ys)) k e = cc
 walk_is (answered (walk es)) k e = (es, refl, cc)
-walk_is (rejected w) k e = let z : ◌≡◌ {A = ℕ} 0 1 = cc in let no : ⊥ = omega arith in absurd no
+walk_is (rejected w) k e = cc
 
-refused-is : (v : AnswerVerdict) (w : Refusal) → Refused w ≡ as_answer v → v ≡ rejected w
-refused-is (answered (tables xs ys)) w e = let z : ◌≡◌ {A = ℕ} 0 1 = cc in let no : ⊥ = omega arith in absurd no
-refused-is (answered (walk es)) w e = let z : ◌≡◌ {A = ℕ} 0 1 = cc in let no : ⊥ = omega arith in absurd no
+refused-is : (v : AnswerVerdict) (w : Refusal) → Err w ≡ as_answer v → v ≡ rejected w
+refused-is (answered (tables xs ys)) w e = cc
+refused-is (answered (walk es)) w e = cc
 refused-is (rejected w') w e = cc
 
 -- the board that the sheet is read for has the sizes of the job's
@@ -123,16 +124,20 @@ pub combinations-are : (wires : ℕ) → wires ≤ wire_limit → 1 * 2 ^ wires 
 combinations-are wires l = shl_exact {a = 1} 1 wires 32 (lit< tt) (omega arith) ∙ one-mul (2 ^ wires)
 
 -- the reader was asked with numbers equal to the sizes
-module _ (h : JobHead) (s : List ℕ) (ra rb cs : ℕ) (ea : ra ≡ 2 ^ ones h.sees_a) (eb : rb ≡ 2 ^ ones h.sees_b) (ec : cs ≡ 2 ^ h.wires) (x : AnswerRead)
-    (e : x ≡ as_answer (read_answer ra rb cs s)) where
-  asked : x ≡ as_answer (verdict h [] s)
-  asked = rw (← ea, ← eb, ← ec) e
+module _ (h : JobHead) (masks s : List ℕ) (z : Sized h masks) (rows_a rows_b : ℕ) (in_a : rows_a ≡ 2 ^ ones h.sees_a) (in_b : rows_b ≡ 2 ^ ones h.sees_b) (x : Result AnswerKind Refusal)
+    (told : x ≡ as_answer (read_answer rows_a rows_b (1 * 2 ^ h.wires % 2 ^ 32) s)) where
+  asked : x ≡ as_answer (verdict h masks s)
+  asked = rw (← in_a, ← in_b, ← combinations-are h.wires z.wires) told
 
-  pub tables-told : x ≡ Tables → (xs : List ℕ) × (ys : List ℕ) × (verdict h [] s ≡ answered (tables xs ys))
-  tables-told p = tables-are (verdict h [] s) (sym p ∙ asked)
+  pub tables-told : x ≡ Ok Tables → TablesIn h s × (tables_at (head_board h masks) (rule_in h masks s) (lowest (fault_in h masks s) (2 ^ h.wires)) ≡ judge_sheet (head_board h masks) s)
+  tables-told p =
+      let t = tables-are (verdict h masks s) (sym p ∙ asked) in
+      (tables-in h masks s t.0 t.1 t.2, tables-judged h masks s t.0 t.1 t.2)
 
-  pub walk-told : (k : ℕ) → x ≡ Walk k → (es : List Entry) × (verdict h [] s ≡ answered (walk es)) × (k ≡ length es)
-  walk-told k p = walk_is (verdict h [] s) k (sym p ∙ asked)
+  pub walk-told : (k : ℕ) → x ≡ Ok (Walk k) → WalkIn h s k × (walk_in h masks s k ≡ judge_sheet (head_board h masks) s)
+  walk-told k p =
+      let t = walk_is (verdict h masks s) k (sym p ∙ asked) in
+      rw t.2 (walk-holds h masks s t.0 t.1, walk-judged h masks s t.0 t.1)
 
-  pub refused-told : (w : Refusal) → x ≡ Refused w → verdict h [] s ≡ rejected w
-  refused-told w p = refused-is (verdict h [] s) w (sym p ∙ asked)
+  pub refused-told : (w : Refusal) → x ≡ Err w → refused_answer w ≡ judge_sheet (head_board h masks) s
+  refused-told w p = refused-judged h masks s w (refused-is (verdict h masks s) w (sym p ∙ asked))

@@ -7,7 +7,6 @@ pub mod Tests
 pub mod Tested
 pub mod Lowest
 pub mod Rules
-pub mod StepCases
 pub mod Walking
 pub mod Judging
 pub mod Accepting

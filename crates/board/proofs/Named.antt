@@ -6,7 +6,7 @@
 use mathlib.Core.Path.{◌≡◌, refl, sym, ap, subst, ◌∙◌}
 use mathlib.Core.Bool.{true}
 use mathlib.Core.List.{List, ◌++◌}
-use mathlib.Core.Logic.{◌↔◌}
+use mathlib.Core.Logic.{◌↔◌, by_cases}
 use Prim.Native.Nat.{ℕ, ◌<◌}
 use native.Mathlib.Decide.{dec_lt}
 use native.Mathlib.Omega.{arith}
@@ -14,6 +14,7 @@ use borrow.Author.Tests.{lt-ltb, le-ltb}
 use lib.Count.{ones}
 use lib.ListN.{length, get_or}
 use lib.Pow.{pow_pos}
+use Rattle.std.proofs.lemmas.Bool.{false_from_ne_true}
 use Rattle.wires.specs.Terms.{Holds, Breaks, Fault, Excused}
 use Rattle.steps.specs.declared.Outcome.{Outcome}
 use Rattle.steps.specs.Outcome.{success, rule_broken, refused_job}
@@ -32,7 +33,7 @@ use Rattle.board.specs.Tests.{lowest}
 use Rattle.board.specs.JobBoard.{job_board}
 use Rattle.board.specs.Check.{fault_at, rule_at, tables_at, judge_tables, judge, judge_sheet, after_job, check_outcome}
 use Rattle.board.proofs.Lowest.{lowest-at, lowest-least, lowest-is}
-use Rattle.board.proofs.Rules.{fails, faultb-iff, counted-holds, rule-among, rule-breaks, rule-least, rule-is}
+use Rattle.board.proofs.Rules.{faultb-iff, counted-holds, rule-among, rule-breaks, rule-least, rule-is}
 use Rattle.board.proofs.Tested.{tested-rule}
 use Rattle.board.proofs.Codes.{verdict_for, walk-not}
 
@@ -92,13 +93,12 @@ module _ (j : Job) (T : List ℕ) where
   module _ (place rule : ℕ) where
     breaks-to : judge_tables B T ≡ rule_broken place rule → Named place rule
     unfolding judge_tables
-    breaks-to e = go (dec_lt low B.combinations)
-      where
-        go : Dec (low < B.combinations) → Named place rule
-        go (yes h) =
-            let same : rule_broken low (rule_at B T low) ≡ rule_broken place rule = rw (lt-ltb low B.combinations h) at e in
-            subst (λ (o : Outcome). Named o.place o.rule) same (named-low h)
-        go (no h) = absurd (codes-differ (success 20 0) (rule_broken place rule) (λ z. omega arith) (rw (le-ltb low B.combinations (omega arith)) at e))
+    breaks-to e =
+        by_cases (dec_lt low B.combinations)
+        (λ h.
+        let same : rule_broken low (rule_at B T low) ≡ rule_broken place rule = rw (lt-ltb low B.combinations h) at e in
+        subst (λ (o : Outcome). Named o.place o.rule) same (named-low h))
+        (λ h. absurd (codes-differ (success 20 0) (rule_broken place rule) (λ z. omega arith) (rw (le-ltb low B.combinations (omega arith)) at e)))
 
     there : Named place rule → fault_at B T place ≡ true
     there g = (fault place).1 ((rule, g.among, g.broken), g.unexcused)
@@ -106,7 +106,7 @@ module _ (j : Job) (T : List ℕ) where
     place-low : Named place rule → place ≡ low
     place-low g =
         lowest-is (fault_at B T) B.combinations place g.combination (there g)
-        (λ a l. fails (fault_at B T a) (λ e. let f = (fault a).0 e in f.0.2 (g.lower_places a l f.1 f.0.0 f.0.1)))
+        (λ a l. false_from_ne_true (fault_at B T a) (λ e. let f = (fault a).0 e in f.0.2 (g.lower_places a l f.1 f.0.0 f.0.1)))
 
     rule-low : Named place rule → rule ≡ rule_at B T place
     rule-low g =

@@ -2,7 +2,7 @@
 -- Assumes nothing.
 use mathlib.Core.Path.{◌≡◌, sym, subst}
 use mathlib.Core.List.{List, [], ◌∷◌}
-use mathlib.Core.Logic.{◌↔◌, inl, inr}
+use mathlib.Core.Logic.{◌↔◌, inl, inr, by_cases}
 use Prim.Native.Nat.{ℕ, zero, suc, ◌-◌, ◌<◌, ◌≤◌}
 use native.Mathlib.Decide.{dec_lt}
 use native.Mathlib.Omega.{arith}
@@ -59,13 +59,9 @@ module _ (B : Board) where
   at-stands (e ∷ es) s = (at_goes (e ∷ es) e.says step, among-at (opposite e.says) (e ∷ es) s.meets.0 s.meets.1 s.meets.2)
     where
       step : (i : ℕ) → i < length (e ∷ es) → Step B (entry (e ∷ es) i).says (after (e ∷ es) e.says i) (entry (e ∷ es) i).by
-      step i h = go (dec_lt (suc i) (length (e ∷ es)))
-        where
-          go : Dec (suc i < length (e ∷ es)) → Step B (entry (e ∷ es) i).says (after (e ∷ es) e.says i) (entry (e ∷ es) i).by
-          go (yes l) = rw (after_next (e ∷ es) e.says i l) (s.onward i l)
-          go (no n) =
-              let k : i ≡ length (e ∷ es) - 1 = omega arith in
-              rw (after_last (e ∷ es) e.says i (omega arith), k) s.back
+      step i h =
+          by_cases (dec_lt (suc i) (length (e ∷ es))) (λ l. rw (after_next (e ∷ es) e.says i l) (s.onward i l))
+          (λ ge. let k : i ≡ length (e ∷ es) - 1 = omega arith in rw (after_last (e ∷ es) e.says i (omega arith), k) s.back)
 
   pub stands-iff : (w : List Entry) → Stands B w ↔ StandsAt B w
   stands-iff w = (stands_at w, at-stands w)

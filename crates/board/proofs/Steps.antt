@@ -5,12 +5,13 @@ use mathlib.Core.Bool.{Bool, true, false, Bool-discrete}
 use mathlib.Core.List.{List}
 use mathlib.Core.Logic.{◌⊎◌, inl, inr, ◌↔◌}
 use Prim.Native.Nat.{ℕ, ◌-◌, ◌<◌}
-use native.Mathlib.Decide.{ℕ_discrete, dec_lt}
+use native.Mathlib.Decide.{map_dec}
 use native.Mathlib.Omega.{arith}
 use Rattle.board.specs.Board.{Board, Shows, rows, at_b, row, value, claim, opposite}
 use Rattle.board.specs.Tables.{held, True, Tables, Fits}
 use Rattle.board.specs.Walk.{Carries, Step, from_a, from_b}
-use Rattle.board.proofs.Finite.{dec-both}
+use Rattle.board.specs.Tests.{stepb}
+use Rattle.board.proofs.Tests.{stepb-iff}
 use Rattle.board.proofs.Claims.{value-bit, row-opposite, value-opposite, row-claim, value-claim, flip-opposite, bit-cases}
 
 module _ (B : Board) where
@@ -32,17 +33,7 @@ module _ (B : Board) where
     step-to {L} {M} {a} (from_b h l m b) = omega (arith, ok.in_a a h)
 
   pub dec-step : (L M a : ℕ) → Dec (Step B L M a)
-  dec-step L M a =
-      go (dec-both (dec_lt a B.combinations) (dec-both (ℕ_discrete (row L) (B.show_a a)) (dec-both (ℕ_discrete (row M) (at_b B a)) (Bool-discrete (B.breaks a (value L) (1 - value M)) true))))
-      (dec-both (dec_lt a B.combinations) (dec-both (ℕ_discrete (row L) (at_b B a)) (dec-both (ℕ_discrete (row M) (B.show_a a)) (Bool-discrete (B.breaks a (1 - value M) (value L)) true))))
-    where
-      go :
-          Dec ((a < B.combinations) × ((row L ≡ B.show_a a) × ((row M ≡ at_b B a) × (B.breaks a (value L) (1 - value M) ≡ true)))) →
-          Dec ((a < B.combinations) × ((row L ≡ at_b B a) × ((row M ≡ B.show_a a) × (B.breaks a (1 - value M) (value L) ≡ true)))) →
-          Dec (Step B L M a)
-      go (yes p) d = yes (from_a p.0 p.1.0 p.1.1.0 p.1.1.1)
-      go (no n) (yes p) = yes (from_b p.0 p.1.0 p.1.1.0 p.1.1.1)
-      go (no n) (no m) = no λ s. elim s [ from_a h l k b ↦ n (h, (l, (k, b))) | from_b h l k b ↦ m (h, (l, (k, b))) ]
+  dec-step L M a = map_dec (stepb-iff B L M a).0 (stepb-iff B L M a).1 (Bool-discrete (stepb B L M a) true)
 
   pub step-combination : {L M a : ℕ} → Step B L M a → a < B.combinations
   step-combination (from_a h l m b) = h

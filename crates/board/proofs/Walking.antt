@@ -1,25 +1,27 @@
--- A walk as it stands in a sheet: the loop that looks for the opposite of its first claim, and its judgement against that of its entries.
+-- A walk as it stands in a sheet: the search for the opposite of its first claim, and its judgement against that of its entries.
 --     flip           two opposite claims differ in the last bit
---     met, unmet     a turn of the loop: the opposite is found, or not yet
+--     any-found      what `any` tells of the range of the numbers below n
 --     Placed         the entries of a list stand at their places in the sheet
 --     any-among      the places have the opposite of the first claim exactly where the entries have it
 --     walk-in        the judgement of the places is that of the entries
 -- Assumes nothing.
 use mathlib.Core.Path.{◌≡◌, sym, ap, ◌∙◌}
-use mathlib.Core.Bool.{true, false, not}
+use mathlib.Core.Bool.{true, false, not, false≢true}
 use mathlib.Core.List.{List}
-use mathlib.Core.Logic.{⊎_elim, by_cases}
-use Prim.Native.Nat.{ℕ, ◌+◌, ◌/◌, ◌<◌}
-use native.Mathlib.Decide.{ℕ_discrete}
-use native.Mathlib.Numerals.{add-one}
+use mathlib.Core.Logic.{⊎_elim}
+use Prim.Native.Nat.{ℕ, ◌/◌, ◌<◌}
 use native.Mathlib.Omega.{arith}
 use lib.Bits.{bit_xor, differ, xor_step, xor_zero_r}
 use lib.ListN.{length}
-use borrow.Author.Tests.{eqb-true, eq-eqb, ne_eqb}
+use borrow.Author.Tests.{eqb-true, eq-eqb}
+use Rattle.std.proofs.lemmas.Bool.{false_from_ne_true}
 use Rattle.wires.proofs.Digits.{low_digit}
 use Rattle.wires.proofs.Sets.{same_test}
 use Rattle.sheet.specs.declared.JobHead.{JobHead}
 use Rattle.answer.specs.Answer.{Entry}
+use Rattle.std.specs.Prelude.{Bool, MatchBool}
+use Rattle.std.specs.List.{range_with_len, AllWithin, HoldsAt}
+use Rattle.std.proofs.lemmas.List.FromFn.{length-range_with_len}
 use Rattle.board.specs.Board.{opposite}
 use Rattle.board.specs.Walk.{entry}
 use Rattle.board.specs.Tests.{amongb}
@@ -29,7 +31,7 @@ use Rattle.board.specs.Places.{claim_in, combination_in, after_of, step_in, oppo
 use Rattle.board.proofs.Numbered.{among-at, at-among}
 use Rattle.board.proofs.Tests.{amongb-iff}
 use Rattle.board.proofs.Rules.{any_below-some}
-use Rattle.board.proofs.Lowest.{lowest-same}
+use Rattle.board.proofs.Lowest.{lowest-same, each-below, one-below}
 
 pub flip : (x : ℕ) → bit_xor x 1 ≡ opposite x
 flip x =
@@ -37,16 +39,16 @@ flip x =
     (λ e. omega (arith, xor_step x 1, xor_zero_r (x / 2), ap (λ (d : ℕ). differ d 1) e))
     (low_digit x)
 
-module _ (s : List ℕ) (first claim i : ℕ) (is-first : first ≡ claim_in s 0) (is-claim : claim ≡ claim_in s i) where
-  -- entry i is the opposite of the first
-  pub met : (count : ℕ) → i < count → claim ≡ bit_xor first 1 → any_below (opposed_in s) count ≡ true
-  met count l e =
-      (any_below-some (opposed_in s) count).1 (i, l, eq-eqb (claim_in s i) (opposite (claim_in s 0)) (sym is-claim ∙ e ∙ flip first ∙ ap opposite is-first))
-
-  -- entry i is not, nor is one before it
-  pub unmet : any_below (opposed_in s) i ≡ false → (claim ≡ bit_xor first 1 → ⊥) → any_below (opposed_in s) (i + 1) ≡ false
-  unfolding any_below
-  unmet e ne = rw (add-one, e, ne_eqb (claim_in s i) (opposite (claim_in s 0)) (λ h. ne (is-claim ∙ h ∙ sym (flip first ∙ ap opposite is-first))))
+-- some item passes, or none does
+pub any-found : (p : ℕ → Bool) (n : ℕ) (r : Bool)
+    → MatchBool r ((k : ℕ) × (k < length (range_with_len 0 n)) × HoldsAt (λ i. p i ≡ true) (range_with_len 0 n) k) (AllWithin (λ i. p i ≡ false) (range_with_len 0 n) 0 (length (range_with_len 0 n)))
+    → r ≡ any_below p n
+any-found p n true h =
+    let t = one-below (λ i. p i ≡ true) n h.0 h.1 h.2 in
+    sym ((any_below-some p n).1 (h.0, t.0, t.1))
+any-found p n false h =
+    let all = each-below (λ i. p i ≡ false) n n (rw length-range_with_len at h) (omega arith) in
+    sym (false_from_ne_true (any_below p n) (λ e. let t = (any_below-some p n).0 e in false≢true (sym (all t.0 t.1) ∙ t.2)))
 
 -- ---- the places and the entries
 
@@ -76,8 +78,7 @@ module _ (s : List ℕ) (es : List Entry) (placed : Placed s es) (some : 0 < len
           (t.0, t.1, eq-eqb (claim_in s t.0) (opposite (claim_in s 0)) ((placed t.0 t.1).0 ∙ t.2 ∙ sym is_c))
 
   after-within : (i : ℕ) → i < length es → after_of (length es) i < length es
-  after-within i l =
-      by_cases (ℕ_discrete (i + 1) (length es)) (λ e. rw (eq-eqb (i + 1) (length es) e) some) (λ ne. rw (ne_eqb (i + 1) (length es) ne) (omega arith))
+  after-within i l = grind (arith, some)
 
   step_in-is : (h : JobHead) (masks : List ℕ) (i : ℕ) → i < length es → step_in h masks s (length es) i ≡ step_at (head_board h masks) es i
   step_in-is h masks i l = rw ((placed i l).0, (placed i l).1, (placed (after_of (length es) i) (after-within i l)).0)

@@ -7,7 +7,7 @@
 --     walk_in                     the judgement of a walk of k entries
 --     TablesIn, WalkIn           what is known of a sheet of tables, and of a walk of k entries
 -- Assumes nothing: these are definitions.
-use Rattle.std.specs.Prelude.{Bool, not, List, ℕ, ◌+◌, ◌*◌, ◌^◌, ◌<◌, ◌≤◌, ltb, eqb, length, get_or}
+use Rattle.std.specs.Prelude.{Bool, not, List, Option, ℕ, ◌+◌, ◌*◌, ◌^◌, ◌<◌, ◌≤◌, ltb, eqb, length, get_or}
 use Rattle.std.specs.Int.Count.{ones}
 use Rattle.steps.specs.Step.{pick}
 use Rattle.wires.specs.Wires.{shown}
@@ -17,7 +17,6 @@ use Rattle.steps.specs.declared.Outcome.{Outcome}
 use Rattle.steps.specs.Outcome.{success, refusal}
 use Rattle.board.specs.Board.{opposite}
 use Rattle.board.specs.JobBoard.{any_below, head_board}
-use Rattle.board.specs.declared.Broken.{Broken}
 use Rattle.board.specs.Tested.{tested, rule_of}
 
 abbrev pub word_at : List ℕ → ℕ → ℕ
@@ -38,7 +37,7 @@ row_b h s a = get_or s (4 + 2 ^ ones h.sees_a + shown h.wires h.sees_b a) 0
 abbrev pub fault_in : JobHead → (masks s : List ℕ) → ℕ → Bool
 fault_in h masks s a = (head_board h masks).breaks a (row_a h s a) (row_b h s a)
 
-abbrev pub tested_in : JobHead → (masks s : List ℕ) → ℕ → Broken
+abbrev pub tested_in : JobHead → (masks s : List ℕ) → ℕ → Option ℕ
 tested_in h masks s a = tested (head_board h masks) a (row_a h s a) (row_b h s a)
 
 abbrev pub rule_in : JobHead → (masks s : List ℕ) → ℕ → ℕ

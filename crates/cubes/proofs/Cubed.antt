@@ -11,8 +11,8 @@ use lib.ListN.{get_or}
 use lib.Pow.{pow_pos, pow-add, pow_mono}
 use Rattle.wires.specs.Wires.{wire}
 use Rattle.wires.proofs.Digits.{low_digit, wire-lt, wire-or}
-use Rattle.cubes.specs.Cubes.{Part, Fits, Ored, Cube, at, Filled}
-use Rattle.cubes.proofs.Parts.{part-le, and-within, split, join}
+use Rattle.cubes.specs.Cubes.{Part, Fits, Ored, Cube, at}
+use Rattle.cubes.proofs.Parts.{part_le, and-within, split, join}
 
 -- ---- how many blocks of 4 words there are
 
@@ -39,8 +39,8 @@ last-is n =
     by_cases (dec_lt n 6) (λ l. omega (arith, few n l, few-blocks n l)) (λ g. omega (arith, many n g, pow_pos (n - 6)))
 
 -- the word of a combination is in one of the blocks
-pub used : (n last a : ℕ) → last ≡ blocks n - 1 → a < 2 ^ n → a / 16 < 4 * last + 4
-used n last a e h = omega (arith, last-is n)
+pub used : (n a : ℕ) → a < 2 ^ n → a / 16 < 4 * blocks n
+used n a h = omega (arith, last-is n, pow_pos (n - 6))
 
 pub high-below : (n p : ℕ) → p < 2 ^ (n + 2) → p / 256 < blocks n
 high-below n p h =
@@ -165,22 +165,20 @@ module _ (n fixed up : ℕ) (q : Cube n fixed up) (s t : List ℕ) (pattern rows
           ∙ ⊎_elim (λ h. h) (λ h. absurd (g (omega (arith, and-64 p fixed, low-64 p (fixed % 64))))) c,
     )
 
-  pub filled : Filled n fixed up s t
-  filled = record {
-    size = o.size;
-    each = λ p hp. by_cases (ℕ_discrete (bit_and (p / 64) (fixed / 64)) (up / 64)) (inside p hp) (outside p hp);
-  }
+  filled : (p : ℕ) → p < 2 ^ (n + 2) → (at t p ≡ 1) ↔ ((at s p ≡ 1) ⊎ (bit_and p fixed ≡ up))
+  filled p hp = by_cases (ℕ_discrete (bit_and (p / 64) (fixed / 64)) (up / 64)) (inside p hp) (outside p hp)
 
 pub filled-by : (n fixed up last : ℕ) → Cube n fixed up → last ≡ blocks n - 1 → (s t : List ℕ) (pattern rows : ℕ)
     → ((b : ℕ) → b < 64 → Fits pattern b (fixed % 64) (up % 64)) → ((b : ℕ) → b < 64 → Fits rows b (fixed / 64 % 4) (up / 64 % 4))
-    → Ored (up / 256) (last - fixed / 256) pattern rows 0 s t → Filled n fixed up s t
+    → Ored (up / 256) (last - fixed / 256) pattern rows 0 s t
+    → (p : ℕ) → p < 2 ^ (n + 2) → (at t p ≡ 1) ↔ ((at s p ≡ 1) ⊎ (bit_and p fixed ≡ up))
 filled-by n fixed up last q e s t pattern rows fits fits-row o =
     filled n fixed up q s t pattern rows fits fits-row (subst (λ (k : ℕ). Ored (up / 256) (k - fixed / 256) pattern rows 0 s t) e o)
 
 -- what the steps of `fill_cube` ask
-module _ (n fixed up last : ℕ) (q : Cube n fixed up) (e : last ≡ blocks n - 1) where
+module _ (n fixed up last : ℕ) (few : n ≤ 14) (q : Cube n fixed up) (e : last ≡ blocks n - 1) where
   pub fixed-last : fixed / 256 ≤ last
   fixed-last = omega (arith, high-below n fixed q.below)
 
   pub in_table : up / 256 + (last - fixed / 256) < 256
-  in_table = omega (arith, fixed-last, part-le (up / 256) (fixed / 256) (part-high up fixed q.part), last-most n last q.wires e)
+  in_table = omega (arith, fixed-last, part_le (up / 256) (fixed / 256) (part-high up fixed q.part), last-most n last few e)

@@ -18,8 +18,8 @@ part-half s f h = omega (arith, and_step s f)
 part_low : (s f : ℕ) → Part s f → s % 2 ≤ f % 2
 part_low s f h = omega (arith, and_step s f)
 
-pub part-le : (s f : ℕ) → Part s f → s ≤ f
-part-le s f h = omega (arith, and_le_r s f)
+pub part_le : (s f : ℕ) → Part s f → s ≤ f
+part_le s f h = omega (arith, and_le_r s f)
 
 pub and-within : (a b : ℕ) → Part (bit_and a b) b
 and-within =
@@ -70,7 +70,7 @@ split zero w f hw hf = omega (arith, ap (λ (x : ℕ). bit_and x f) none, ap (λ
 split (suc k) w f hw hf = omega (arith, and_step w f, and-other k w f hf, split k (w / 2) (f / 2) (half-below k hw) (half-below k hf))
 
 pub join : (k v d f : ℕ) → f < 2 ^ k → Part v f → Part d (2 ^ k - 1 - f) → bit_and (v + d) f ≡ v
-join zero v d f hf hv hd = omega (arith, part-le v f hv, and_le_r (v + d) f)
+join zero v d f hf hv hd = omega (arith, part_le v f hv, and_le_r (v + d) f)
 join (suc k) v d f hf hv hd =
     and_step (v + d) f
     ∙ digits _ _

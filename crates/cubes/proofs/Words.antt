@@ -1,49 +1,19 @@
--- A pattern added to words of the table, one after the other within a block, and to blocks one after the other from the last. Assumes nothing.
+-- A pattern added to blocks of the table, one after the other from the last. Assumes nothing.
 use mathlib.Core.Path.{◌≡◌, refl, sym, ap, subst, ◌∙◌}
-use mathlib.Core.Logic.{◌≢◌, by_cases}
+use mathlib.Core.Logic.{by_cases}
 use mathlib.Core.List.{List}
 use Prim.Native.Nat.{ℕ, ◌+◌, ◌-◌, ◌*◌, ◌<◌, ◌≤◌}
 use native.Mathlib.Decide.{dec_lt, ℕ_discrete}
 use native.Mathlib.Omega.{arith}
-use borrow.Author.Count.{below_more}
 use lib.Bits.{bit_and, bit_or, and_le_l}
-use lib.ListN.{length, get_or, set, length-set}
-use lib.Seq.{get_or-set_same, get_or-set_other}
+use lib.ListN.{get_or}
 use Rattle.wires.specs.Wires.{wire}
 use Rattle.cubes.specs.Cubes.{Part, Added, Ored}
-use Rattle.cubes.proofs.Parts.{part-le, step_down}
-
--- ---- within a block
-
-pub none-added : (w pattern rows : ℕ) (s : List ℕ) → Added w pattern rows 0 s s
-none-added w pattern rows s = record { size = refl; done = λ j l. absurd (omega arith); kept = λ v h. refl }
-
-module _ (w pattern rows j : ℕ) (s t : List ℕ) (x : ℕ) (below : w + j < length t) (e : x ≡ pattern * wire rows j) (o : Added w pattern rows j s t) where
-  abbrev stored : List ℕ
-  stored = set t (w + j) (bit_or (get_or t (w + j) 0) x)
-
-  there : (v : ℕ) → v ≢ w + j → get_or stored v 0 ≡ get_or t v 0
-  there v n = get_or-set_other t (w + j) v (bit_or (get_or t (w + j) 0) x) 0 n
-
-  pub add-one-more : Added w pattern rows (j + 1) s stored
-  add-one-more = record {
-    size = length-set t (w + j) (bit_or (get_or t (w + j) 0) x) ∙ o.size;
-    done = below_more (λ (i : ℕ). get_or stored (w + i) 0 ≡ bit_or (get_or s (w + i) 0) (pattern * wire rows i)) j
-        (λ i l. there (w + i) (λ q. omega arith) ∙ o.done i l)
-        (get_or-set_same t (w + j) (bit_or (get_or t (w + j) 0) x) 0 below
-        ∙ ap (bit_or (get_or t (w + j) 0)) e
-        ∙ ap (λ (y : ℕ). bit_or y (pattern * wire rows j)) (o.kept (w + j) (λ i l q. omega arith)));
-    kept = λ v h. there v (h j (omega arith)) ∙ o.kept v (λ i l. h i (omega arith));
-  }
-
-pub all-added : (w pattern rows j : ℕ) (s t : List ℕ) → j ≡ 4 → Added w pattern rows j s t → Added w pattern rows 4 s t
-all-added w pattern rows j s t e a = subst (λ (k : ℕ). Added w pattern rows k s t) e a
-
--- ---- blocks
+use Rattle.cubes.proofs.Parts.{part_le, step_down}
 
 module _ (base free pattern rows : ℕ) (s : List ℕ) where
   pub none_yet : Ored base free pattern rows (free + 1) s s
-  none_yet = record { size = refl; done = λ d h l. absurd (omega (arith, part-le d free h)); kept = λ v h. refl }
+  none_yet = record { size = refl; done = λ d h l. absurd (omega (arith, part_le d free h)); kept = λ v h. refl }
 
   module _ (t r : List ℕ) (sub : ℕ) (part : Part sub free) (o : Ored base free pattern rows (sub + 1) s t) (a : Added (4 * (base + sub)) pattern rows 4 t r) where
     -- the block was as it was at first

@@ -3,6 +3,7 @@
 use Rattle.std.specs.Prelude.{◌≡◌, ◌⊎◌, ◌↔◌, ◌≢◌, List, ℕ, ◌+◌, ◌*◌, ◌/◌, ◌%◌, ◌^◌, ◌<◌, ◌≤◌, length, get_or}
 use Rattle.std.specs.Int.Bits.{bit_and, bit_or}
 use Rattle.wires.specs.Wires.{wire}
+use Rattle.cubes.specs.declared.table.Table.{Table}
 
 -- r has the even digits of x
 pub record Evens (x r : ℕ) : Type 0 where
@@ -39,15 +40,14 @@ pub record Ored (base free pattern rows e : ℕ) (s t : List ℕ) : Type 0 where
 
 -- the places of a board of n wires that have the values of `up` at the digits of `fixed`
 pub record Cube (n fixed up : ℕ) : Type 0 where
-  pub wires : n ≤ 14
   pub below : fixed < 2 ^ (n + 2)
   pub part : Part up fixed
 
 -- the digit of a place
 abbrev pub at : List ℕ → ℕ → ℕ
-at table p = wire (get_or table (p / 64) 0) (p % 64)
+at words p = wire (get_or words (p / 64) 0) (p % 64)
 
 -- the table t has 1 where it was so in s, and at the places of the cube
-pub record Filled (n fixed up : ℕ) (s t : List ℕ) : Type 0 where
-  pub size : length t ≡ length s
-  pub each : (p : ℕ) → p < 2 ^ (n + 2) → (at t p ≡ 1) ↔ ((at s p ≡ 1) ⊎ (bit_and p fixed ≡ up))
+pub record Filled (fixed up : ℕ) (s t : Table) : Type 0 where
+  pub wires : t.wires ≡ s.wires
+  pub each : (p : ℕ) → p < 2 ^ (s.wires + 2) → (at t.words p ≡ 1) ↔ ((at s.words p ≡ 1) ⊎ (bit_and p fixed ≡ up))

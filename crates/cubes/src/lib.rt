@@ -8,6 +8,10 @@ ghost use Rattle.std.specs.Prelude.{◌≡◌, ℕ, ◌+◌, ◌-◌, ◌*◌, �
 ghost use Rattle.wires.specs.Wires.{wire};
 ghost use Rattle.cubes.specs.Cubes.{Evens, Arranged, Part, Fits, Added, Ored, Cube, Filled};
 
+use table::{Table, WORDS};
+
+pub mod table;
+
 // The digits 0, 2, 4, .. of `x`, close together.
 pub fn evens(x: u32) -> u32
     ensures { Evens x result }
@@ -33,6 +37,7 @@ pub fn arranged(n: u32, e: u32) -> u32
 
 // The numbers below 64 whose digits of `fixed` are those of `up`. First 0 alone, then with each digit that is
 // free also what there is so far with that digit set; and `up` is added to each.
+#[tactic(auto, using(std::proofs::lemmas::Nat::and_le_r))]
 pub fn pattern_of(fixed: u32, up: u32) -> u64
     requires fixed_bound { fixed < 64 }
     requires part { Part up fixed }
@@ -57,28 +62,25 @@ pub fn chosen(pattern: u64, rows: u64, j: usize) -> u64
 }
 
 // Adds `pattern` to those of the 4 words from `w` on whose digit of `rows` is 1.
-pub fn or_block(table: &mut [u64; 1024], w: usize, pattern: u64, rows: u64)
-    requires w_bound { w + 4 ≤ 1024 }
-    requires table_len { length table.old ≡ 1024 }
-    ensures { Added w pattern rows 4 table.old table.new }
+pub fn or_block(words: &mut [u64; WORDS], w: usize, pattern: u64, rows: u64)
+    requires { w + 4 ≤ 1024 }
+    ensures { Added w pattern rows 4 words.old words.new }
 {
-    let mut j: usize = 0;
-    while j < 4 {
-        table[w + j] = table[w + j] | chosen(pattern, rows, j);
-        j += 1;
+    for j in 0..4 {
+        words[w + j] |= chosen(pattern, rows, j);
     }
 }
 
 // Does so with each block of 4 words whose distance from the block `base` is a part of `free`, from the last down:
 // the next part of `free` below `sub` is `(sub - 1) & free`.
-pub fn or_blocks(table: &mut [u64; 1024], base: u32, free: u32, pattern: u64, rows: u64)
-    requires free_bound { base + free < 256 }
-    requires table_len { length table.old ≡ 1024 }
-    ensures { Ored base free pattern rows 0 table.old table.new }
+#[tactic(auto, using(crate::proofs::Parts::part_le))]
+pub fn or_blocks(words: &mut [u64; WORDS], base: u32, free: u32, pattern: u64, rows: u64)
+    requires { base + free < 256 }
+    ensures { Ored base free pattern rows 0 words.old words.new }
 {
     let mut sub = free;
     loop {
-        or_block(table, 4 * ((base + sub) as usize), pattern, rows);
+        or_block(words, 4 * ((base + sub) as usize), pattern, rows);
         if sub == 0 {
             return;
         }
@@ -95,13 +97,12 @@ pub fn last_block(n: u32) -> u32
 }
 
 // Sets the digit of each place whose digits of `fixed` are those of `up`.
-pub fn fill_cube(n: u32, fixed: u32, up: u32, table: &mut [u64; 1024])
-    requires cube { Cube n fixed up }
-    requires table_len { length table.old ≡ 1024 }
-    ensures { Filled n fixed up table.old table.new }
+pub fn fill_cube(table: &mut Table, fixed: u32, up: u32)
+    requires { Cube table.old.wires fixed up }
+    ensures { Filled fixed up table.old table.new }
 {
     let pattern = pattern_of(fixed % 64, up % 64);
     let rows = pattern_of(fixed / 64 % 4, up / 64 % 4);
-    let free = last_block(n) - fixed / 256;
-    or_blocks(table, up / 256, free, pattern, rows);
+    let free = last_block(table.wires) - fixed / 256;
+    or_blocks(&mut table.words, up / 256, free, pattern, rows);
 }

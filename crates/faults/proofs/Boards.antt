@@ -1,7 +1,8 @@
 -- The rules and the excuses of a board, and the places where a rule is broken or an excuse holds.
 --     marked, unmarked                      the table with a rule's places
 --     waived, unwaived                      the table with an excuse's places
---     none-marked, one_more, all-marked     the table of the first rules
+--     FirstFaults                           the table of the first rules
+--     none-marked, one_more, all-marked     of none, of one more, and of all
 --     first_more                            one of the first k + 1
 -- Assumes nothing.
 use mathlib.Core.Path.{◌≡◌, refl, sym, ap, ◌∙◌, subst}
@@ -15,12 +16,13 @@ use borrow.Author.Tests.{le-ltb, eq-eqb, ne_eqb}
 use lib.Bits.{bit_and, bit_or}
 use lib.ListN.{length, get_or}
 use Rattle.wires.specs.Wires.{wire}
-use Rattle.wires.specs.Terms.{Setting, value, IsTrue, Breaks, Excuses}
+use Rattle.wires.specs.Terms.{Setting, value, IsTrue, Breaks, Fault, Excuses}
 use Rattle.wires.proofs.Digits.{low_digit, wire-low, wire-high, wire-zero, wire-none, wire-above}
 use Rattle.wires.proofs.Sets.{wire-value, same_true}
+use Rattle.cubes.specs.declared.table.Table.{Table}
 use Rattle.cubes.specs.Cubes.{Evens, Arranged, Filled}
 use Rattle.cubes.proofs.Cubed.{used}
-use Rattle.faults.specs.Table.{Faults, Marked, Waived, Cleared}
+use Rattle.faults.specs.Table.{bit, Faults, Marked, Cleared, Waived}
 use Rattle.faults.proofs.Places.{place, Has, more, no_more}
 
 -- ---- the cells' values
@@ -177,42 +179,56 @@ module _ (n terms ed eu d u : ℕ) (e₀ : Evens terms ed) (e₁ : Evens (terms 
             ))
             t (omega arith) e)
 
-  pub marked : (s t : List ℕ) → bit_and d u ≡ 0 → Filled n (bit_or d u) u s t → Marked n terms s t
-  marked s t z f = record {
-    size = f.size;
-    tells = more n d u a₀.small a₁.small (λ a x y. Breaks n a x y terms) breaks-has s t z f;
+-- ---- the table s with a rule's or an excuse's places, which are those of a cube, or none
+
+module _ (s : Table) (terms ed eu d u : ℕ) (e₀ : Evens terms ed) (e₁ : Evens (terms / 2) eu) (a₀ : Arranged s.wires ed d) (a₁ : Arranged s.wires eu u) where
+  broken : (a x y : ℕ) → Setting s.wires a x y → Breaks s.wires a x y terms ↔ Has (s.wires + 2) (place a x y) d u
+  broken = breaks-has s.wires terms ed eu d u e₀ e₁ a₀ a₁
+
+  pub marked : (t : Table) → bit_and d u ≡ 0 → Filled (bit_or d u) u s t → Marked terms s t
+  marked t z f = record {
+    wires = f.wires;
+    tells = more s.wires d u a₀.small a₁.small (λ a x y. Breaks s.wires a x y terms) broken s.words t.words z f.each;
   }
 
-  pub unmarked : (s : List ℕ) → (bit_and d u ≡ 0 → ⊥) → Marked n terms s s
-  unmarked s g = record {
-    size = refl;
-    tells = no_more n d u a₀.small a₁.small (λ a x y. Breaks n a x y terms) breaks-has s g;
+  pub unmarked : (bit_and d u ≡ 0 → ⊥) → Marked terms s s
+  unmarked g = record {
+    wires = refl;
+    tells = no_more s.wires d u a₀.small a₁.small (λ a x y. Breaks s.wires a x y terms) broken s.words g;
   }
 
-  module _ (small : terms < 2 ^ (2 * n)) where
-    pub waived : (s t : List ℕ) → bit_and u d ≡ 0 → Filled n (bit_or u d) d s t → Waived n terms s t
-    waived s t z f = record {
-      size = f.size;
-      tells = more n u d a₁.small a₀.small (λ a x y. Excuses n a terms) (λ a x y b. excuses-has a x y b small) s t z f;
+  module _ (small : terms < 2 ^ (2 * s.wires)) where
+    excused : (a x y : ℕ) → Setting s.wires a x y → Excuses s.wires a terms ↔ Has (s.wires + 2) (place a x y) u d
+    excused a x y b = excuses-has s.wires terms ed eu d u e₀ e₁ a₀ a₁ a x y b small
+
+    pub waived : (t : Table) → bit_and u d ≡ 0 → Filled (bit_or u d) d s t → Waived terms s t
+    waived t z f = record {
+      wires = f.wires;
+      tells = more s.wires u d a₁.small a₀.small (λ a x y. Excuses s.wires a terms) excused s.words t.words z f.each;
     }
 
-    pub unwaived : (s : List ℕ) → (bit_and u d ≡ 0 → ⊥) → Waived n terms s s
-    unwaived s g = record {
-      size = refl;
-      tells = no_more n u d a₁.small a₀.small (λ a x y. Excuses n a terms) (λ a x y b. excuses-has a x y b small) s g;
+    pub unwaived : (bit_and u d ≡ 0 → ⊥) → Waived terms s s
+    unwaived g = record {
+      wires = refl;
+      tells = no_more s.wires u d a₁.small a₀.small (λ a x y. Excuses s.wires a terms) excused s.words g;
     }
 
 -- ---- the table of the first rules
 
-pub none-marked : (n last : ℕ) (rules s t : List ℕ) → last ≡ 2 ^ (n - 6) - 1 → length s ≡ 1024 → Cleared (4 * last + 4) s t → Faults n rules 0 t
-none-marked n last rules s t e l c = record {
-  size = c.size ∙ l;
+-- a table of n wires that has 1 exactly where one of the first k rules is broken
+pub record FirstFaults (n : ℕ) (rules : List ℕ) (k : ℕ) (t : Table) : Type 0 where
+  pub wires : t.wires ≡ n
+  pub tells : (a x y : ℕ) → Setting n a x y → (bit t.words a x y ≡ 1) ↔ Fault n rules k a x y
+
+pub none-marked : (n end : ℕ) (rules s : List ℕ) (t : Table) → t.wires ≡ n → end ≡ 4 * 2 ^ (n - 6) → Cleared end s t.words → FirstFaults n rules 0 t
+none-marked n end rules s t e used-is zeros = record {
+  wires = e;
   tells = λ a x y b. (
     λ h. absurd
         (omega (
           arith,
           sym h,
-          ap (λ (w : ℕ). wire w (4 * (a % 16) + 2 * x + y)) (c.each (a / 16) (used n last a e b.below)),
+          ap (λ (w : ℕ). wire w (4 * (a % 16) + 2 * x + y)) (zeros.each (a / 16) (omega (arith, used n a b.below))),
           wire-zero (4 * (a % 16) + 2 * x + y),
         )),
     λ h. absurd (omega (arith, h.1)),
@@ -226,15 +242,16 @@ first_more P k = (
   ⊎_elim (λ h. (h.0, omega (arith, h.1), h.2)) (λ h. (k, omega arith, h)),
 )
 
-pub one_more : (n : ℕ) (rules : List ℕ) (i : ℕ) (s t : List ℕ) → Faults n rules i s → Marked n (get_or rules i 0) s t → Faults n rules (i + 1) t
+pub one_more : (n : ℕ) (rules : List ℕ) (i : ℕ) (s t : Table) → FirstFaults n rules i s → Marked (get_or rules i 0) s t → FirstFaults n rules (i + 1) t
 one_more n rules i s t f m = record {
-  size = m.size ∙ f.size;
+  wires = m.wires ∙ f.wires;
   tells = λ a x y b.
-      let first = first_more (λ (j : ℕ). Breaks n a x y (get_or rules j 0)) i in (
-        λ h. first.1 (⊎_elim (λ k. inl ((f.tells a x y b).0 k)) inr ((m.tells a x y b).0 h)),
-        λ h. (m.tells a x y b).1 (⊎_elim (λ k. inl ((f.tells a x y b).1 k)) inr (first.0 h)),
+      let first = first_more (λ (j : ℕ). Breaks n a x y (get_or rules j 0)) i in
+      let more = rw f.wires at m.tells in (
+        λ h. first.1 (⊎_elim (λ k. inl ((f.tells a x y b).0 k)) inr ((more a x y b).0 h)),
+        λ h. (more a x y b).1 (⊎_elim (λ k. inl ((f.tells a x y b).1 k)) inr (first.0 h)),
       );
 }
 
-pub all-marked : (n : ℕ) (rules : List ℕ) (i count : ℕ) (t : List ℕ) → i ≡ count → Faults n rules i t → Faults n rules count t
-all-marked n rules i count t e f = subst (λ (k : ℕ). Faults n rules k t) e f
+pub all-marked : (n : ℕ) (rules : List ℕ) (k : ℕ) (t : Table) → k ≡ length rules → FirstFaults n rules k t → Faults n rules t
+all-marked n rules k t e f = record { wires = f.wires; tells = rw (sym e) f.tells }

@@ -7,7 +7,7 @@
 use mathlib.Core.Path.{◌≡◌, sym, ap, ap₂, ◌∙◌}
 use mathlib.Core.Logic.{◌⊎◌, ◌↔◌, inl, inr, ⊎_elim, by_cases}
 use mathlib.Core.List.{List}
-use Prim.Native.Nat.{ℕ, ◌+◌, ◌*◌, ◌/◌, ◌%◌, ◌^◌, ◌<◌, ◌≤◌, min, max}
+use Prim.Native.Nat.{ℕ, ◌+◌, ◌*◌, ◌/◌, ◌%◌, ◌^◌, ◌<◌, min, max}
 use native.Mathlib.Nat.{lt_of_le_of_lt}
 use native.Mathlib.Decide.{dec_lt}
 use native.Mathlib.Omega.{arith}
@@ -17,7 +17,7 @@ use lib.Pow.{pow-add}
 use Rattle.wires.specs.Wires.{wire}
 use Rattle.wires.specs.Terms.{Setting}
 use Rattle.wires.proofs.Digits.{low_digit, wire-lt, wire-and, wire-or, wire-zero, wire-none, some-wire}
-use Rattle.cubes.specs.Cubes.{Part, Cube, at, Filled}
+use Rattle.cubes.specs.Cubes.{Part, Cube, at}
 use Rattle.cubes.proofs.Parts.{same}
 use Rattle.faults.specs.Table.{bit}
 
@@ -88,21 +88,22 @@ part-or m d u hd hu =
     (λ p l. wire-and u (bit_or d u) p ∙ ap (min (wire u p)) (wire-or d u p) ∙ omega arith)
 
 module _ (n d u : ℕ) (hd : d < 2 ^ (n + 2)) (hu : u < 2 ^ (n + 2)) where
-  pub cube : n ≤ 14 → Cube n (bit_or d u) u
-  cube l = record { wires = l; below = or_lt (n + 2) d u hd hu; part = part-or (n + 2) d u hd hu }
+  pub cube : Cube n (bit_or d u) u
+  cube = record { below = or_lt (n + 2) d u hd hu; part = part-or (n + 2) d u hd hu }
 
   -- P holds at the places that have 0 at d and 1 at u
   module _ (P : ℕ → ℕ → ℕ → Type 0) (is : (a x y : ℕ) → Setting n a x y → P a x y ↔ Has (n + 2) (place a x y) d u) where
-    pub more : (s t : List ℕ) → bit_and d u ≡ 0 → Filled n (bit_or d u) u s t
+    pub more : (s t : List ℕ) → bit_and d u ≡ 0
+        → ((p : ℕ) → p < 2 ^ (n + 2) → (at t p ≡ 1) ↔ ((at s p ≡ 1) ⊎ (bit_and p (bit_or d u) ≡ u)))
         → (a x y : ℕ) → Setting n a x y → (bit t a x y ≡ 1) ↔ ((bit s a x y ≡ 1) ⊎ P a x y)
     more s t z f a x y b = (
       λ h.
           ⊎_elim (λ k. inl (sym (at-bit s a x y b.cell_a b.cell_b) ∙ k))
           (λ k. inr ((is a x y b).1 (has-out (n + 2) (place a x y) d u hd hu z k)))
-          ((f.each (place a x y) (place-below n a x y b)).0 (at-bit t a x y b.cell_a b.cell_b ∙ h)),
+          ((f (place a x y) (place-below n a x y b)).0 (at-bit t a x y b.cell_a b.cell_b ∙ h)),
       λ h.
           sym (at-bit t a x y b.cell_a b.cell_b)
-          ∙ (f.each (place a x y) (place-below n a x y b)).1
+          ∙ (f (place a x y) (place-below n a x y b)).1
           (⊎_elim (λ k. inl (at-bit s a x y b.cell_a b.cell_b ∙ k)) (λ k. inr (has_in (n + 2) (place a x y) d u hd hu ((is a x y b).0 k))) h),
     )
 

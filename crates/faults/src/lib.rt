@@ -4,103 +4,97 @@
 // Leans on `cubes`, which sets the places of a cube, and on the definitions and laws of `wires`.
 #![tactic(auto)]
 
-ghost use Rattle.std.specs.Prelude.{◌≡◌, ◌↔◌, true, ◌*◌, ◌^◌, ◌<◌, ◌≤◌, length};
-ghost use Rattle.faults.specs.Table.{bit, Faults, Marked, Cleared, Turned, Waived, Struck, Strikes};
+ghost use Rattle.std.specs.Prelude.{◌≡◌, ◌↔◌, true, ℕ, ◌*◌, ◌-◌, ◌^◌, ◌<◌, ◌≤◌, length, slice_index};
+ghost use Rattle.faults.specs.Table.{bit, Faults, Marked, Cleared, Turned, Waived, Struck};
 
+use cubes::table::Table;
 use cubes::{arranged, evens, fill_cube, last_block};
 
 // Sets the digit of each place where the rule is broken.
-pub fn fill_rule(n: u32, rule: u32, table: &mut [u64; 1024])
-    requires n_bound { n ≤ 14 }
-    requires table_len { length table.old ≡ 1024 }
-    ensures { Marked n rule table.old table.new }
+pub fn fill_rule(table: &mut Table, rule: u32)
+    ensures { Marked rule table.old table.new }
 {
-    let down = arranged(n, evens(rule));
-    let up = arranged(n, evens(rule / 2));
+    let down = arranged(table.wires, evens(rule));
+    let up = arranged(table.wires, evens(rule / 2));
     if down & up == 0 {
-        fill_cube(n, down | up, up, table);
+        fill_cube(table, down | up, up);
     }
 }
 
-// Sets each word below `end` to 0.
-pub fn clear(end: usize, table: &mut [u64])
-    requires { end ≤ length table.old }
-    ensures { Cleared end table.old table.new }
+// How many words the board uses.
+fn words_used(table: &Table) -> usize
+    ensures value { result ≡ 4 * 2 ^ (table.now.wires - 6) }
+    ensures most { result ≤ 1024 }
 {
-    let mut i: usize = 0;
-    while i < end {
-        table[i] = 0;
-        i += 1;
-    }
+    4 * (last_block(table.wires) as usize) + 4
 }
 
-// The table of the faults of a board of `n` wires under the first `count` rules.
-pub fn fill_faults(n: u32, rules: &[u32], count: usize, table: &mut [u64; 1024])
-    requires n_bound { n ≤ 14 }
-    requires count_in_bounds { count ≤ length rules.now }
-    ensures { Faults n rules.now count table.new }
+// Sets each of the first `end` words to 0. The part is cut here and not by the caller: once a part of a `Table`'s words was lent,
+// the check no longer knows what they are.
+pub fn clear(words: &mut [u64], end: usize)
+    requires { end ≤ length words.old }
+    ensures { Cleared end words.old words.new }
 {
-    let last = last_block(n);
-    clear(4 * (last as usize) + 4, table);
-    let mut i: usize = 0;
-    while i < count {
-        fill_rule(n, rules[i], table);
-        i += 1;
+    words[..end].fill(0);
+}
+
+// The table of the faults of its board under the rules.
+pub fn fill_faults(table: &mut Table, rules: &[u32])
+    ensures { Faults table.old.wires rules.now table.new }
+{
+    let end = words_used(table);
+    clear(&mut table.words, end);
+    for rule in rules {
+        fill_rule(table, *rule);
     }
 }
 
 // Sets the digit of each place whose combination the excuse excuses: those where every plain term's wire is 1 and every
 // negated term's is 0.
-pub fn fill_excuse(n: u32, excuse: u32, table: &mut [u64; 1024])
-    requires n_bound { (n ≤ 14) × (excuse < 2 ^ (2 * n)) }
-    requires table_len { length table.old ≡ 1024 }
-    ensures { Waived n excuse table.old table.new }
+pub fn fill_excuse(table: &mut Table, excuse: u32)
+    requires { excuse < 2 ^ (2 * table.old.wires) }
+    ensures { Waived excuse table.old table.new }
 {
-    let ones = arranged(n, evens(excuse));
-    let zeros = arranged(n, evens(excuse / 2));
+    let ones = arranged(table.wires, evens(excuse));
+    let zeros = arranged(table.wires, evens(excuse / 2));
     if zeros & ones == 0 {
-        fill_cube(n, zeros | ones, ones, table);
+        fill_cube(table, zeros | ones, ones);
     }
 }
 
-// Turns each digit of the words below `end` to the other one.
-pub fn turn(end: usize, table: &mut [u64])
-    requires { end ≤ length table.old }
-    ensures { Turned end table.old table.new }
+// Turns each digit of the first `end` words to the other one. The part is cut here for the same reason as in `clear`.
+pub fn turn(words: &mut [u64], end: usize)
+    requires { end ≤ length words.old }
+    ensures { Turned end words.old words.new }
 {
-    let mut i: usize = 0;
-    while i < end {
-        table[i] = !table[i];
-        i += 1;
+    for word in words[..end].iter_mut() {
+        *word = !*word;
     }
 }
 
-// Clears the digits of the combinations that the first `count` excuses excuse: the table is turned, filled at those places,
-// and turned back.
-pub fn strike(n: u32, excuses: &[u32], count: usize, table: &mut [u64; 1024])
-    requires { Strikes n excuses.now count table.old }
-    ensures { Struck n excuses.now count table.old table.new }
+// Clears the digits of the combinations that the excuses excuse: the table is turned, filled at those places, and turned back.
+pub fn strike(table: &mut Table, excuses: &[u32])
+    requires { (i : ℕ) → i < length excuses.now → slice_index excuses.now i < 2 ^ (2 * table.old.wires) }
+    ensures { Struck excuses.now table.old table.new }
 {
-    if count == 0 {
+    if excuses.is_empty() {
         return;
     }
-    let end = 4 * (last_block(n) as usize) + 4;
-    turn(end, table);
-    let mut i: usize = 0;
-    while i < count {
-        fill_excuse(n, excuses[i], table);
-        i += 1;
+    let end = words_used(table);
+    turn(&mut table.words, end);
+    for excuse in excuses {
+        fill_excuse(table, *excuse);
     }
-    turn(end, table);
+    turn(&mut table.words, end);
 }
 
 // Whether some rule is broken where the wires have the combination `a`, cell A has `x` and cell B has `y`.
-pub fn fault(table: &[u64; 1024], a: u32, x: u32, y: u32) -> bool
+pub fn fault(table: &Table, a: u32, x: u32, y: u32) -> bool
     requires a_bound { a < 2 ^ 14 }
     requires x_bound { x < 2 }
     requires y_bound { y < 2 }
-    ensures { (result ≡ true) ↔ (bit table.now a x y ≡ 1) }
+    ensures { (result ≡ true) ↔ (bit table.now.words a x y ≡ 1) }
 {
     let w = (a / 16) as usize;
-    (table[w] >> (4 * (a % 16) + 2 * x + y)) % 2 == 1
+    (table.words[w] >> (4 * (a % 16) + 2 * x + y)) % 2 == 1
 }

@@ -1,9 +1,12 @@
 // A board as arrays: for each combination the row that it shows to A, the row that it shows to B, and its faults. Filled once
-// per job; a step test is then a look-up. The definitions stand in specs/Grid. Leans on `wires` and `faults`.
+// per job; a step test is then a look-up. The definitions stand in specs/Grid. Leans on `wires`, `cubes` and `faults`.
 #![tactic(auto)]
 
 ghost use Rattle.std.specs.Prelude.{◌≡◌, ◌≤◌, length};
+ghost use Rattle.grid.specs.Grid.{Sound, grid};
 ghost use Rattle.grid.specs.Filled.{Doubles, Doubled, Asks, Rows, Faulted};
+
+use cubes::table::Table;
 
 // The sizes of a board: its wires, the wires that each cell sees, the rows of each cell, and the combinations.
 #[derive(Clone, Copy)]
@@ -16,15 +19,23 @@ pub struct Shape {
     pub combinations: usize,
 }
 
+// A board's sizes, and its arrays, lent, with a place for each combination, which are those of the sizes' wires.
+#[derive(Clone, Copy)]
+pub struct Grid<'a> {
+    pub shape: Shape,
+    pub row_a: &'a [u8],
+    pub row_b: &'a [u8],
+    pub faults: &'a [u8],
+    pub ghost sound: { Sound (grid shape row_a.now row_b.now faults.now) },
+}
+
 // Doubles the filled front of `rows`: the `size` entries after the first `size` are these with `step` added.
 fn double(rows: &mut [u8], size: usize, step: u8)
     requires { Doubles rows.old size step }
     ensures { Doubled rows.old rows.new size step }
 {
-    let mut i: usize = 0;
-    while i < size {
+    for i in 0..size {
         rows[size + i] = rows[i] + step;
-        i += 1;
     }
 }
 
@@ -38,28 +49,23 @@ pub fn fill_rows(wires: u32, seen: u32, rows: &mut [u8])
     rows[0] = 0;
     let mut size: usize = 1;
     let mut weight: u32 = 1;
-    let mut p: u32 = 0;
-    while p < wires {
+    for p in 0..wires {
         if (seen >> p) % 2 == 1 {
             double(rows, size, weight as u8);
-            weight = weight * 2;
+            weight *= 2;
         } else {
             double(rows, size, 0);
         }
-        size = size * 2;
-        p += 1;
+        size *= 2;
     }
 }
 
-// Takes the faults of each of the first `n` combinations out of the table of words: four digits each.
-pub fn unpack(table: &[u64; 1024], n: usize, faults: &mut [u8])
-    requires { (n ≤ 16384) × (n ≤ length faults.old) }
-    ensures { Faulted n table.now faults.old faults.new }
+// Takes the faults of each combination out of the table of words: four digits each.
+pub fn unpack(table: &Table, faults: &mut [u8])
+    requires { length faults.old ≤ 16384 }
+    ensures { Faulted (length faults.old) table.now.words faults.old faults.new }
 {
-    let mut a: usize = 0;
-    while a < n {
-        let word = table[a / 16];
-        faults[a] = ((word >> (4 * (a % 16))) % 16) as u8;
-        a += 1;
+    for (a, fault) in faults.iter_mut().enumerate() {
+        *fault = ((table.words[a / 16] >> (4 * (a % 16))) % 16) as u8;
     }
 }

@@ -17,6 +17,7 @@ pub fn read_full<R: Read>(input: &mut R, buf: &mut [u8]) -> io::Result<usize>
     ensures failed { OnErr result
         ((k : ℕ) × (k ≤ length buf.new) × Consumes (R.remaining input.old) (R.remaining input.new) (take k buf.new)) }
 {
+    // No method of the standard library does the same: `read_exact` fails where the input ends early, `read_to_end` allocates.
     let mut done = 0;
     while done < buf.len() {
         let n = input.read(&mut buf[done..])?;

@@ -10,9 +10,9 @@ ghost use Rattle.sheet.specs.JobSheet.{longest};
 ghost use Rattle.answer.specs.Written.{two};
 ghost use Rattle.mover.specs.Moved.{excuses_at, put, moving};
 
-use answer::{write_rows, write_two};
-use sheet::{Form, JobRead, MASKS, read_job};
-use steps::{Outcome, place_of, refused, refused_job, succeeded};
+use answer::page::Page;
+use sheet::{Form, MASKS, read_job};
+use steps::{Outcome, refused, refused_job, succeeded};
 
 // The bytes of a section of no excuses, which is its count alone.
 const NONE: usize = 2;
@@ -25,8 +25,10 @@ fn add_none(sheet: &[u8], out: &mut [u8]) -> Outcome
     if out.len() < sheet.len() + NONE {
         return refused(6, 0, 0);
     }
-    let end = write_rows(out, 0, sheet);
-    succeeded(0, write_two(out, end, 0))
+    let mut page = Page { bytes: out, at: 0 };
+    page.write(sheet);
+    page.write_two(0);
+    succeeded(0, page.at)
 }
 
 // The sheet without that section, which stands at its end, if there is room.
@@ -38,7 +40,9 @@ fn drop_none(sheet: &[u8], out: &mut [u8]) -> Outcome
     if out.len() < kept {
         return refused(6, 0, 0);
     }
-    succeeded(0, write_rows(out, 0, &sheet[..kept]))
+    let mut page = Page { bytes: out, at: 0 };
+    page.write(&sheet[..kept]);
+    succeeded(0, page.at)
 }
 
 // The place after the rules: what stands there is left over in form one.
@@ -48,8 +52,8 @@ fn excuses_at(sheet: &[u8]) -> usize
     let mut masks = [0u32; MASKS];
     let in_one = read_job(Form::One, sheet, &mut masks);
     match in_one {
-        JobRead::Accepted(_) => sheet.len(),
-        JobRead::Refused(w) => place_of(w),
+        Ok(_) => sheet.len(),
+        Err(w) => w.place(),
     }
 }
 
@@ -58,10 +62,9 @@ pub fn to_two(sheet: &[u8], out: &mut [u8]) -> Outcome
     ensures { Ended (moving Two sheet.now out.old) result out.new }
 {
     let mut masks = [0u32; MASKS];
-    let read = read_job(Form::One, sheet, &mut masks);
-    match read {
-        JobRead::Accepted(_) => add_none(sheet, out),
-        JobRead::Refused(w) => refused_job(1, w),
+    match read_job(Form::One, sheet, &mut masks) {
+        Ok(_) => add_none(sheet, out),
+        Err(w) => refused_job(1, w),
     }
 }
 
@@ -70,14 +73,9 @@ pub fn to_one(sheet: &[u8], out: &mut [u8]) -> Outcome
     ensures { Ended (moving One sheet.now out.old) result out.new }
 {
     let mut masks = [0u32; MASKS];
-    let read = read_job(Form::Two, sheet, &mut masks);
-    match read {
-        JobRead::Accepted(head) => {
-            if head.excuses != 0 {
-                return refused(16, 1, excuses_at(sheet));
-            }
-            drop_none(sheet, out)
-        }
-        JobRead::Refused(w) => refused_job(1, w),
+    match read_job(Form::Two, sheet, &mut masks) {
+        Ok(head) if head.excuses == 0 => drop_none(sheet, out),
+        Ok(_) => refused(16, 1, excuses_at(sheet)),
+        Err(w) => refused_job(1, w),
     }
 }

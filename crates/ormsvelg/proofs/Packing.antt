@@ -19,6 +19,7 @@ use lib.Dec.{ltb, leb, eqb}
 use lib.ListN.{length, get_or, take}
 use lib.Seq.{length-take-le}
 use lib.Pow.{pow_mono}
+use Rattle.std.specs.Prelude.{Ok, Err}
 use Rattle.steps.specs.declared.Refusal.{Refusal}
 use Rattle.steps.specs.declared.Outcome.{Outcome}
 use Rattle.sheet.specs.declared.Form.{Form}
@@ -38,10 +39,8 @@ use Rattle.answer.specs.AnswerSheet.{read_answer}
 use Rattle.answer.specs.AnswerSheet.{longest as longest_answer}
 use Rattle.answer.proofs.There.{walk-there}
 use Rattle.answer.proofs.Length.{place-small as answer-place-small}
-use Rattle.writer.specs.declared.Judged.{Judged}
-use Rattle.writer.specs.declared.Judged.TheVariants.{Fine, Amiss}
 use Rattle.writer.specs.JobWritten.{job_sheet}
-use Rattle.writer.specs.Writing.{write_outcome}
+use Rattle.writer.specs.Writing.{Judged, write_outcome}
 use Rattle.writer.specs.Writing.{judge as judge_job, outcome_of as outcome_written}
 use Rattle.writer.proofs.Small.{Small, judge-small, sheet-small}
 use Rattle.board.specs.Board.{Board, opposite}
@@ -233,9 +232,9 @@ widen-found f p q s entry = unpack-pack (widened f p q s entry).outcome (widen-p
 
 -- ---- the writer
 
-written-packs : (g : Judged) (long : ℕ) → Small g → (g ≡ Fine → long < 65536) → Packs (outcome_written g long)
-written-packs Fine long h l = success-packs 0 long (omega arith) (omega (arith, l refl))
-written-packs (Amiss c s p) long h l = refusal-packs c s p (omega (arith, h.code)) (omega (arith, h.section)) (omega (arith, h.place))
+written-packs : (g : Judged) (long : ℕ) → Small g → (g ≡ Ok tt → long < 65536) → Packs (outcome_written g long)
+written-packs (Ok u) long h l = success-packs 0 long (omega arith) (omega (arith, l refl))
+written-packs (Err a) long h l = record { code = omega (arith, h.code); sheet = omega (arith, h.section); place = omega (arith, h.place); written = omega (arith, h.written) }
 
 pub write-packs : (j : Job) (room : ℕ) → Packs (write_outcome j room)
 unfolding write_outcome

@@ -7,6 +7,7 @@ use mathlib.Core.List.{List, [], ◌∷◌, ◌++◌}
 use Prim.Native.Nat.{ℕ}
 use lib.Dec.{leb}
 use lib.ListN.{length, take}
+use Rattle.std.specs.Prelude.{Ok, Err}
 use Rattle.steps.specs.declared.Outcome.{Outcome}
 use Rattle.steps.specs.Outcome.{refusal, refusing, writing}
 use Rattle.steps.proofs.Endings.{pick-has}
@@ -16,11 +17,10 @@ use Rattle.sheet.specs.Job.{Job, Verdict, accepted, rejected}
 use Rattle.sheet.specs.JobSheet.{read_job, outcome_of, read_outcome}
 use Rattle.answer.specs.Written.{two}
 use Rattle.board.specs.Board.{Board}
-use Rattle.writer.specs.declared.Judged.{Judged}
-use Rattle.writer.specs.declared.Judged.TheVariants.{Fine, Amiss}
 use Rattle.writer.specs.JobWritten.{job_sheet}
-use Rattle.writer.specs.Writing.{write_outcome}
+use Rattle.writer.specs.Writing.{Judged, write_outcome}
 use Rattle.writer.specs.Writing.{judge as judge_job, outcome_of as outcome_written}
+use Rattle.writer.proofs.Small.{Small, judge-small}
 use Rattle.solver.specs.Solved.{SolvedOn, Solved, refused, no_room, solved}
 use Rattle.solver.specs.Solved.{tables as tabled, walk as walked}
 use Rattle.mover.specs.Moved.{excuses_at, to_two, without, to_one, put, ending, moved_to, moving}
@@ -35,11 +35,11 @@ read-rule f s = go (read_job f s)
 
 pub write-rule : (j : Job) (room : ℕ) → (write_outcome j room).rule ≡ 0
 unfolding write_outcome
-write-rule j room = go (judge_job j room) (length (job_sheet j))
+write-rule j room = go (judge_job j room) (length (job_sheet j)) (judge-small j room)
   where
-    go : (g : Judged) (long : ℕ) → (outcome_written g long).rule ≡ 0
-    go Fine long = refl
-    go (Amiss c s p) long = refl
+    go : (g : Judged) (long : ℕ) → Small g → (outcome_written g long).rule ≡ 0
+    go (Ok u) long h = refl
+    go (Err a) long h = h.rule
 
 on-rule : {B : Board} {entry : List ℕ} {o : Outcome} {exit : List ℕ} → SolvedOn B entry o exit → o.rule ≡ 0
 on-rule (tabled xs ys p f e w) = ap (λ (o : Outcome). o.rule) e

@@ -8,8 +8,7 @@
 // input ends early, a byte of a number is 0 and a sheet is what was read of it.
 #![tactic(auto)]
 
-ghost use Rattle.std.specs.Prelude.{◌≡◌, ◌+◌, ◌*◌, ◌<◌, ◌≤◌, IfOk, length};
-ghost use Rattle.std.specs.Io.{ReadsAtMost};
+ghost use Rattle.std.specs.Prelude.{◌<◌, ◌≤◌, IfOk, length};
 
 use answer::LONGEST;
 use sheet::Form;
@@ -21,36 +20,32 @@ use text::LONGEST_NUMBERS;
 // A length is two bytes, so this many bytes hold any sheet.
 const SHEET: usize = 65536;
 
-// A number of two bytes, low byte first.
-fn word(low: u8, high: u8) -> usize
-    ensures { (result ≡ low + 256 * high) × (result < 65536) }
-{
-    low as usize + 256 * (high as usize)
-}
-
-// Reads a number of two bytes.
-fn read_word<R: Read>(book: &mut R) -> io::Result<usize>
+// Reads a number of two bytes, low byte first.
+fn read_word<R: Read>(book: &mut R) -> io::Result<u16>
     ensures { IfOk result (λ n. n < 65536) }
 {
     let mut bytes = [0u8; 2];
     input::read_full(book, &mut bytes)?;
-    Ok(word(bytes[0], bytes[1]))
+    Ok(u16::from_le_bytes(bytes))
 }
 
 // Reads the form of a case's job sheets: two for the byte 2, one for any other.
 fn read_form<R: Read>(book: &mut R) -> io::Result<Form> {
-    let mut bytes = [0u8; 1];
-    input::read_full(book, &mut bytes)?;
-    Ok(if bytes[0] == 2 { Form::Two } else { Form::One })
+    let mut number = [0u8; 1];
+    input::read_full(book, &mut number)?;
+    Ok(match number {
+        [2] => Form::Two,
+        _ => Form::One,
+    })
 }
 
-// Reads a sheet to the front of an array. Answers how many bytes came.
-fn read_sheet<R: Read>(book: &mut R, sheet: &mut [u8]) -> io::Result<usize>
-    requires { 65536 ≤ length sheet.old }
-    ensures { ReadsAtMost result sheet.new }
+// Reads a sheet to the front of an array. Answers the bytes that came.
+fn read_sheet<'a, R: Read>(book: &mut R, sheet: &'a mut [u8; SHEET]) -> io::Result<&'a [u8]>
+    ensures { IfOk result (λ bytes. length bytes.now ≤ 65536) }
 {
-    let asked = read_word(book)?;
-    input::read_full(book, &mut sheet[..asked])
+    let asked = usize::from(read_word(book)?);
+    let length = input::read_full(book, &mut sheet[..asked])?;
+    Ok(&sheet[..length])
 }
 
 // Prints a line: a name, and the numbers of an outcome.
@@ -64,22 +59,16 @@ fn print_numbers<W: Write>(lines: &mut W, name: &[u8], o: Outcome) -> io::Result
 // Reads a case and prints its two lines. The lent buffer is never too short.
 fn answer_case<R: Read, W: Write>(book: &mut R, lines: &mut W) -> io::Result<()> {
     let form = read_form(book)?;
-    let mut p = [0u8; SHEET];
-    let length_p = read_sheet(book, &mut p)?;
-    let mut q = [0u8; SHEET];
-    let length_q = read_sheet(book, &mut q)?;
-    let mut answer = [0u8; SHEET];
-    let length = read_sheet(book, &mut answer)?;
-    let checked = board::check::check(form, &p[..length_p], &answer[..length]);
+    let mut room_p = [0u8; SHEET];
+    let p = read_sheet(book, &mut room_p)?;
+    let mut room_q = [0u8; SHEET];
+    let q = read_sheet(book, &mut room_q)?;
+    let mut room = [0u8; SHEET];
+    let answer = read_sheet(book, &mut room)?;
+    let checked = board::check::check(form, p, answer);
     print_numbers(lines, b"check ", checked)?;
     let mut out = [0u8; LONGEST];
-    let widened = widener::widen(
-        form,
-        &p[..length_p],
-        &q[..length_q],
-        &answer[..length],
-        &mut out,
-    );
+    let widened = widener::widen(form, p, q, answer, &mut out);
     print_numbers(lines, b"widen ", widened)
 }
 

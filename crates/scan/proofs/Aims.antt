@@ -1,13 +1,15 @@
 -- The two claims at which a look aims are the ends of all steps from its claim by its combination.
 -- Assumes nothing.
-use Rattle.std.proofs.Common.{◌≡◌, ℕ, ◌+◌, ◌-◌, ◌*◌, ◌/◌, ◌%◌, ◌<◌, ◌≤◌, ◌⊎◌, length, sym, refl, ap, ◌∙◌, subst, inl, inr, ⊎_elim, arith, pow_pos, le-ltb, lt-ltb}
+use Rattle.std.proofs.Common.{◌≡◌, ℕ, ◌+◌, ◌-◌, ◌*◌, ◌/◌, ◌%◌, ◌<◌, ◌≤◌, ◌⊎◌, List, length, sym, refl, ap, ◌∙◌, subst, inl, inr, ⊎_elim, arith, pow_pos, le-ltb, lt-ltb}
 use mathlib.Core.Logic.{by_cases}
+use borrow.Author.Tests.{eq-eqb, ne_eqb}
 use native.Mathlib.Decide.{ℕ_discrete, dec_lt}
 use lib.Count.{ones}
-use Rattle.grid.specs.Grid.{Grid, claims, shown_a, shown_b, fault, Sound, bit}
+use Rattle.grid.specs.Grid.{claims, shown_a, shown_b, fault, Sound, bit}
+use Rattle.grid.specs.Grid.{Grid}
 use Rattle.grid.specs.declared.Shape.{Shape}
 use Rattle.scan.specs.declared.Side.{Side}
-use Rattle.scan.specs.Steps.{ShowsRow, Step, Aim, aim, aim_of, base, side, side_of}
+use Rattle.scan.specs.Steps.{ShowsRow, Step, Aim, aim, aim_of, base, side, side_of, other_rows}
 use Rattle.scan.specs.Steps.Step.{a-to-b, b-to-a}
 use Rattle.scan.proofs.Sizes.{in-a, in-b}
 
@@ -85,6 +87,15 @@ module _ {g : Grid} {l a base low high : ℕ} (ok : Sound g) (w : a < g.shape.co
 
 -- ---- by the cell of the claim
 
+module _ (g : Grid) (own : Side) where
+  pub other-b : own.first ≡ g.shape.rows_a → other_rows g own ≡ g.row_b
+  unfolding other_rows
+  other-b e = rw (eq-eqb own.first g.shape.rows_a e) refl
+
+  pub other-a : (own.first ≡ g.shape.rows_a → ⊥) → other_rows g own ≡ g.row_a
+  unfolding other_rows
+  other-a n = rw (ne_eqb own.first g.shape.rows_a n) refl
+
 abbrev pub side_a : Shape → ℕ → Side
 side_a shape l = side shape.sees_a (l / 2) shape.rows_a (2 * (l % 2) + 1) (2 * (l % 2))
 
@@ -129,12 +140,17 @@ module _ (g : Grid) (l : ℕ) where
 
   -- the aim by the claim's side: where the other cell's first row is B's first it is of B, and else of A
   module _ {own : Side} (d : own ≡ side_of g.shape l) where
-    pub to-b : Sound g → own.first ≡ g.shape.rows_a → aim_of g l ≡ aim g.faults g.row_b own
+    to-b : Sound g → own.first ≡ g.shape.rows_a → aim_of g l ≡ aim g.faults g.row_b own
     to-b ok e =
         by_cases (dec_lt (l / 2) g.shape.rows_a) (λ h. aim-a h ∙ ap (aim g.faults g.row_b) (sym d))
         (λ h. absurd (omega (arith, ap (λ (s : Side). s.first) (d ∙ of-b g.shape l (omega arith)), ok.sizes.rows_a, pow_pos (ones g.shape.sees_a))))
 
-    pub to-a : (own.first ≡ g.shape.rows_a → ⊥) → aim_of g l ≡ aim g.faults g.row_a own
+    to-a : (own.first ≡ g.shape.rows_a → ⊥) → aim_of g l ≡ aim g.faults g.row_a own
     to-a e =
         by_cases (dec_lt (l / 2) g.shape.rows_a) (λ h. absurd (e (ap (λ (s : Side). s.first) (d ∙ of-a g.shape l h))))
         (λ h. aim-b (omega arith) ∙ ap (aim g.faults g.row_a) (sym d))
+
+    pub to-other : {rows : List ℕ} → rows ≡ other_rows g own → Sound g → aim_of g l ≡ aim g.faults rows own
+    to-other {rows} is ok =
+        by_cases (ℕ_discrete own.first g.shape.rows_a) (λ e. to-b ok e ∙ ap (λ (ys : List ℕ). aim g.faults ys own) (sym (is ∙ other-b g own e)))
+        (λ n. to-a n ∙ ap (λ (ys : List ℕ). aim g.faults ys own) (sym (is ∙ other-a g own n)))

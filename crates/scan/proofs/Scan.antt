@@ -1,20 +1,21 @@
 -- The combinations that show the row of a claim: the k-th of them is the row placed at the wires seen, with the k-th part of the wires not seen.
 -- Each is one of these, they rise with k, and none lies between two neighbours.
 -- Assumes nothing.
-use Rattle.std.proofs.Common.{◌≡◌, ℕ, zero, suc, ◌+◌, ◌-◌, ◌/◌, ◌^◌, ◌<◌, ◌≤◌, Bool, true, false, sym, refl, ap, ◌∙◌, subst, ap₂, inl, inr, ⊎_elim, true≢false, arith, pow_pos}
+use Rattle.std.proofs.Common.{◌≡◌, ℕ, zero, suc, ◌+◌, ◌-◌, ◌/◌, ◌^◌, ◌<◌, ◌≤◌, sym, ap, ◌∙◌, subst, ap₂, inl, inr, ⊎_elim, arith, pow_pos}
 use mathlib.Core.Logic.{by_cases}
 use native.Mathlib.Decide.{dec_lt}
 use lib.Count.{ones}
 use Rattle.wires.specs.Wires.{shown, placed}
 use Rattle.wires.proofs.Rows.{row_below, shown-placed}
 use Rattle.wires.proofs.Parts.{parts-of, part-shows, part-below, part-rises, part-first, part-last}
-use Rattle.grid.specs.Grid.{Grid, claims, Sound}
+use Rattle.grid.specs.Grid.{claims, Sound}
+use Rattle.grid.specs.Grid.{Grid}
 use Rattle.scan.specs.Steps.{ShowsRow, Aim, aim_of, side_of}
-use Rattle.scan.specs.Reach.{Store, Left, Looks, Looked, Asks, Swept}
+use Rattle.scan.specs.Reach.{Looks, Looked, Asks, Swept}
+use Rattle.scan.specs.declared.Store.{Store}
 use Rattle.scan.specs.declared.Side.{Side}
 use Rattle.scan.proofs.Sizes.{in-a}
 use Rattle.scan.proofs.Aims.{of-a, of-b}
-use Rattle.scan.proofs.Laws.{left-path}
 use Rattle.scan.proofs.Looked.{Turn, turn-asks}
 use Rattle.scan.proofs.Sweep.{Sweep, sweep-start, sweep-ask, sweep-look, sweep-to, sweep-done}
 
@@ -122,9 +123,8 @@ module _ {g : Grid} {l seen row : ℕ} (unseen : ℕ) (ok : Sound g) (o : Own g 
         none : (a : ℕ) → after g.shape.wires seen unseen row (2 ^ ones unseen) ≤ a → a < g.shape.combinations → ShowsRow g l a → ⊥
         none a h p z = omega (arith, later (2 ^ ones unseen) a (omega arith) h p z, row_below g.shape.wires unseen a)
 
--- The loop after k turns: `part` is the k-th part of the wires not seen, what comes before the place after the first k has been looked at, and there are more
--- exactly if k parts are not all.
-pub record Scan (g : Grid) (s : Store) (tail l unseen lowest : ℕ) (t : Store) (last part : ℕ) (more : Bool) : Type 0 where
+-- The loop after k turns, with more to come: `part` is the k-th part of the wires not seen, and what comes before the place after the first k has been looked at.
+pub record Scan (g : Grid) (s : Store) (tail l unseen lowest : ℕ) (t : Store) (last part : ℕ) : Type 0 where
   pub seen : ℕ
   pub row : ℕ
   pub own : Own g l seen row
@@ -132,17 +132,15 @@ pub record Scan (g : Grid) (s : Store) (tail l unseen lowest : ℕ) (t : Store) 
   pub start : lowest ≡ placed g.shape.wires seen row
   pub turns : ℕ
   pub at : part ≡ placed g.shape.wires unseen turns
-  pub goes : more ≡ true → turns < 2 ^ ones unseen
-  pub ends : more ≡ false → turns ≡ 2 ^ ones unseen
+  pub goes : turns < 2 ^ ones unseen
   pub sweep : Sweep g s tail l t last (after g.shape.wires seen unseen row turns)
 
 -- how many turns are left
-abbrev pub left : ℕ → ℕ → ℕ → Bool → ℕ
-left n unseen part true = 2 ^ ones unseen - shown n unseen part
-left n unseen part false = 0
+abbrev pub left : ℕ → ℕ → ℕ → ℕ
+left n unseen part = 2 ^ ones unseen - shown n unseen part
 
-module _ {g : Grid} {s : Store} {tail l unseen lowest : ℕ} (q : Asks g s tail l) where
-  pub scan-start : {seen row : ℕ} → Own g l seen row → seen + unseen + 1 ≡ g.shape.combinations → lowest ≡ placed g.shape.wires seen row → Scan g s tail l unseen lowest s tail 0 true
+module _ {g : Grid} {s : Store} {tail l unseen lowest : ℕ} (ok : Sound g) (q : Asks g s tail l) where
+  pub scan-start : {seen row : ℕ} → Own g l seen row → seen + unseen + 1 ≡ g.shape.combinations → lowest ≡ placed g.shape.wires seen row → Scan g s tail l unseen lowest s tail 0
   unfolding after
   scan-start {seen} {row} o r e = record {
     seen = seen;
@@ -152,45 +150,50 @@ module _ {g : Grid} {s : Store} {tail l unseen lowest : ℕ} (q : Asks g s tail 
     start = e;
     turns = 0;
     at = sym (part-first g.shape.wires unseen);
-    goes = λ _. pow_pos (ones unseen);
-    ends = λ z. absurd (true≢false z);
+    goes = pow_pos (ones unseen);
     sweep = sweep-start q.reach;
   }
 
-  module _ {t : Store} {last part : ℕ} {more : Bool} (w : Scan g s tail l unseen lowest t last part more) where
+  module _ {t : Store} {last part : ℕ} (w : Scan g s tail l unseen lowest t last part) where
     spot-now : lowest + part ≡ spot g.shape.wires w.seen unseen w.row w.turns
     spot-now = ap₂ ◌+◌ w.start w.at
 
     pub scan-within : lowest + part < g.shape.combinations
-    scan-within = omega (arith, spot-now, spot-within unseen q.sound w.own w.rest w.turns)
+    scan-within = omega (arith, spot-now, spot-within unseen ok w.own w.rest w.turns)
 
-    module _ (m : more ≡ true) where
-      swept : Sweep g s tail l t last (lowest + part)
-      swept = rw spot-now (to-spot unseen q.sound w.own w.rest w.turns (w.goes m) w.sweep)
+    swept : Sweep g s tail l t last (lowest + part)
+    swept = rw spot-now (to-spot unseen ok w.own w.rest w.turns w.goes w.sweep)
 
-      turn : Turn g t last l (lowest + part)
-      turn = sweep-ask swept q scan-within (rw spot-now (spot-shows unseen q.sound w.own w.rest w.turns))
+    turn : Turn g t last l (lowest + part)
+    turn = sweep-ask swept ok q scan-within (rw spot-now (spot-shows unseen ok w.own w.rest w.turns))
 
-      pub scan-ask : {v : Aim} → aim_of g l ≡ v → Looks v t last l (lowest + part)
-      scan-ask e = subst (λ (v : Aim). Looks v t last l (lowest + part)) e (turn-asks turn)
+    pub scan-ask : {v : Aim} → aim_of g l ≡ v → Looks v t last l (lowest + part)
+    scan-ask e = subst (λ (v : Aim). Looks v t last l (lowest + part)) e (turn-asks turn)
 
-      module _ {next : ℕ} {on : Bool} (e : next ≡ placed g.shape.wires unseen (w.turns + 1)) (y : on ≡ true → next ≡ 0 → ⊥) (n : on ≡ false → next ≡ 0) where
-        goes_on : on ≡ true → w.turns + 1 < 2 ^ ones unseen
-        goes_on h =
-            by_cases (dec_lt (w.turns + 1) (2 ^ ones unseen)) (λ l. l)
-            (λ l. absurd (y h (e ∙ ap (placed g.shape.wires unseen) (full l) ∙ part-last g.shape.wires unseen)))
+    module _ {next : ℕ} (e : next ≡ placed g.shape.wires unseen (w.turns + 1)) where
+      goes_on : (next ≡ 0 → ⊥) → w.turns + 1 < 2 ^ ones unseen
+      goes_on n =
+          by_cases (dec_lt (w.turns + 1) (2 ^ ones unseen)) (λ l. l)
+          (λ l. absurd (n (e ∙ ap (placed g.shape.wires unseen) (full l) ∙ part-last g.shape.wires unseen)))
+        where
+          full : (w.turns + 1 < 2 ^ ones unseen → ⊥) → w.turns + 1 ≡ 2 ^ ones unseen
+          full l = omega (arith, w.goes)
+
+      ends_now : next ≡ 0 → w.turns + 1 ≡ 2 ^ ones unseen
+      ends_now z =
+          by_cases (dec_lt (w.turns + 1) (2 ^ ones unseen))
+          (λ l. absurd (omega (arith, z, e, part-first g.shape.wires unseen, part-rises g.shape.wires unseen 0 (w.turns + 1) (omega (arith, w.rest, ok.sizes.combinations)) (omega arith) l)))
+          (λ l. omega (arith, w.goes))
+
+      module _ {v : Aim} {u : Store} {end : ℕ} (f : aim_of g l ≡ v) (z : Looked v t last l (lowest + part) u end) where
+        onward : Sweep g s tail l u end (after g.shape.wires w.seen unseen w.row (w.turns + 1))
+        onward = by-spot unseen ok w.own w.rest w.turns (rw spot-now at turn) (rw spot-now at swept) (rw spot-now at same)
           where
-            full : (w.turns + 1 < 2 ^ ones unseen → ⊥) → w.turns + 1 ≡ 2 ^ ones unseen
-            full l = omega (arith, w.goes m)
+            same : Looked (aim_of g l) t last l (lowest + part) u end
+            same = subst (λ (v : Aim). Looked v t last l (lowest + part) u end) (sym f) z
 
-        ends_now : on ≡ false → w.turns + 1 ≡ 2 ^ ones unseen
-        ends_now h =
-            by_cases (dec_lt (w.turns + 1) (2 ^ ones unseen))
-            (λ l. absurd (omega (arith, n h, e, part-first g.shape.wires unseen, part-rises g.shape.wires unseen 0 (w.turns + 1) (omega (arith, w.rest, q.sound.sizes.combinations)) (omega arith) l)))
-            (λ l. omega (arith, w.goes m))
-
-        pub scan-turn : {v : Aim} {u : Store} {end : ℕ} → aim_of g l ≡ v → Looked v t last l (lowest + part) u end → Scan g s tail l unseen lowest u end next on
-        scan-turn {v} {u} {end} f z = record {
+        pub scan-turn : (next ≡ 0 → ⊥) → Scan g s tail l unseen lowest u end next
+        scan-turn n = record {
           seen = w.seen;
           row = w.row;
           own = w.own;
@@ -198,28 +201,16 @@ module _ {g : Grid} {s : Store} {tail l unseen lowest : ℕ} (q : Asks g s tail 
           start = w.start;
           turns = w.turns + 1;
           at = e;
-          goes = goes_on;
-          ends = ends_now;
-          sweep = by-spot unseen q.sound w.own w.rest w.turns (rw spot-now at turn) (rw spot-now at swept) (rw spot-now at same);
+          goes = goes_on n;
+          sweep = onward;
         }
-          where
-            same : Looked (aim_of g l) t last l (lowest + part) u end
-            same = subst (λ (v : Aim). Looked v t last l (lowest + part) u end) (sym f) z
 
-        -- the parts before it are as many as the turns
-        many : (part k : ℕ) → part ≡ placed g.shape.wires unseen k → k < 2 ^ ones unseen → shown g.shape.wires unseen part ≡ k
-        many part k h z = ap (shown g.shape.wires unseen) h ∙ shown-placed g.shape.wires unseen k (omega (arith, w.rest, q.sound.sizes.combinations)) z
+        pub scan-done : next ≡ 0 → Swept g s tail l u end
+        scan-done h = to_end unseen ok w.own w.rest (subst (λ (j : ℕ). Sweep g s tail l u end (after g.shape.wires w.seen unseen w.row j)) (ends_now h) onward)
 
-        less : (b : Bool) → on ≡ b → left g.shape.wires unseen next b < left g.shape.wires unseen part true
-        less true h = omega (arith, many part w.turns w.at (w.goes m), many next (w.turns + 1) e (goes_on h), goes_on h)
-        less false h = omega (arith, many part w.turns w.at (w.goes m), w.goes m)
+      -- the parts before it are as many as the turns
+      many : (part k : ℕ) → part ≡ placed g.shape.wires unseen k → k < 2 ^ ones unseen → shown g.shape.wires unseen part ≡ k
+      many part k h z = ap (shown g.shape.wires unseen) h ∙ shown-placed g.shape.wires unseen k (omega (arith, w.rest, ok.sizes.combinations)) z
 
-        pub scan-less : left g.shape.wires unseen next on < left g.shape.wires unseen part more
-        scan-less = rw m (less on refl)
-
-    pub scan-done : more ≡ false → Swept g s tail l t last
-    scan-done m = to_end unseen q.sound w.own w.rest (subst (λ (j : ℕ). Sweep g s tail l t last (after g.shape.wires w.seen unseen w.row j)) (w.ends m) w.sweep)
-
--- the same, of the variables where the arms of a branch have met
-pub scan-as : {g : Grid} {s : Store} {tail l unseen lowest : ℕ} {t : Store} {last : ℕ} {u : Store} {end part : ℕ} {more : Bool} → Left t last u end → Scan g s tail l unseen lowest t last part more → Scan g s tail l unseen lowest u end part more
-scan-as {g} {s} {tail} {l} {unseen} {lowest} {last = last} {part = part} {more = more} d w = rw d.end (subst (λ (v : Store). Scan g s tail l unseen lowest v last part more) (left-path d) w)
+      pub scan-less : (next ≡ 0 → ⊥) → left g.shape.wires unseen next < left g.shape.wires unseen part
+      scan-less n = omega (arith, many part w.turns w.at w.goes, many next (w.turns + 1) e (goes_on n), goes_on n)

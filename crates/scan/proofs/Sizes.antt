@@ -3,7 +3,8 @@
 use Rattle.std.proofs.Common.{ℕ, ◌^◌, ◌<◌, ◌≤◌, arith, pow_mono}
 use Rattle.wires.proofs.Rows.{row_below}
 use Rattle.board.specs.Board.{Shows}
-use Rattle.grid.specs.Grid.{Grid, shown_a, shown_b, Sound, grid_board}
+use Rattle.grid.specs.Grid.{shown_a, shown_b, Sound, grid_board}
+use Rattle.grid.specs.Grid.{Grid}
 
 module _ {g : Grid} (ok : Sound g) where
   pub in-a : (a : ℕ) → a < g.shape.combinations → shown_a g a < g.shape.rows_a

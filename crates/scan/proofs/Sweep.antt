@@ -1,9 +1,10 @@
 -- The loop of `looks`: what it has done when it comes to combination b.
 -- Assumes nothing.
 use Rattle.std.proofs.Common.{◌≡◌, ℕ, zero, suc, ◌+◌, ◌-◌, ◌<◌, ◌≤◌, sym, subst, add-zero, arith, below_none, below_more}
-use Rattle.grid.specs.Grid.{Grid}
+use Rattle.grid.specs.Grid.{Grid, Sound}
 use Rattle.scan.specs.Steps.{ShowsRow, aim_of}
-use Rattle.scan.specs.Reach.{Store, Reach, Grown, Found, Looked, Visited, Asks, Swept}
+use Rattle.scan.specs.Reach.{Reach, Grown, Found, Looked, Visited, Asks, Swept}
+use Rattle.scan.specs.declared.Store.{Store}
 use Rattle.scan.specs.Reach.Visited.{begin, look, pass}
 use Rattle.scan.proofs.Aims.{step-within, step-shown}
 use Rattle.scan.proofs.Laws.{grown-refl, grown-trans}
@@ -20,8 +21,8 @@ module _ {g : Grid} {s : Store} {tail l : ℕ} where
   sweep-start h = record { visited = begin; grown = grown-refl h; found = below_none (λ (k : ℕ). Found g s l k) }
 
   module _ {t : Store} {last b : ℕ} (w : Sweep g s tail l t last b) where
-    pub sweep-ask : Asks g s tail l → b < g.shape.combinations → ShowsRow g l b → Turn g t last l b
-    sweep-ask q n z = record { sound = q.sound; reach = w.grown.reach; known = w.grown.still l q.known; within = n; shows = z }
+    pub sweep-ask : Sound g → Asks g s tail l → b < g.shape.combinations → ShowsRow g l b → Turn g t last l b
+    sweep-ask ok q n z = record { sound = ok; reach = w.grown.reach; known = w.grown.still l q.known; within = n; shows = z }
 
     pub sweep-look : {u : Store} {end : ℕ} → Turn g t last l b → Looked (aim_of g l) t last l b u end → Sweep g s tail l u end (b + 1)
     sweep-look {u} k q = record {

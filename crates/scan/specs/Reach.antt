@@ -1,5 +1,5 @@
--- What the spread keeps in the lent arrays, and what each function of the scan promises of it.
---     Store      the four arrays: the marks, the queue, and each claim's parent claim and combination
+-- What the spread keeps in its store, and what each function of the scan promises of it.
+--     Store      the four arrays, the struct of `src/lib.rt`: the marks, the queue, and each claim's parent claim and combination; and the queue's end
 --     marks      the sum of the first n marks
 --     Reach      the invariant: the first `tail` queue entries are exactly the marked claims, each once, and each but the first has a parent that stands before it
 --     Grown      from one store to a later one: more claims, none lost, the queue's front as it was
@@ -8,17 +8,10 @@
 --     Visited    the scan of one claim: each combination that shows its row is looked at once, in rising order, and no other
 -- Assumes nothing: these are definitions.
 use Rattle.std.specs.Prelude.{◌≡◌, ℕ, zero, suc, ◌+◌, ◌<◌, ◌≤◌, Bool, ◌&&◌, ◌⊎◌, List, length, ◌==◌, ◌≢◌, nat_lt, slice_index, slice_index_or, slice_set}
-use Rattle.grid.specs.Grid.{Grid, claims, bit, Sound}
+use Rattle.grid.specs.Grid.{claims, bit}
+use Rattle.grid.specs.Grid.{Grid}
 use Rattle.scan.specs.Steps.{ShowsRow, Step, Aim, aim_of, base}
-
-pub record Store : Type 0 where
-  pub reached : List ℕ
-  pub queue : List ℕ
-  pub from : List ℕ
-  pub by : List ℕ
-
-abbrev pub store : List ℕ → List ℕ → List ℕ → List ℕ → Store
-store r q f y = record { reached = r; queue = q; from = f; by = y }
+use Rattle.scan.specs.declared.Store.{Store}
 
 abbrev pub mark : Store → ℕ → ℕ
 mark s c = slice_index s.reached c
@@ -139,7 +132,6 @@ pub data Visited (g : Grid) (l : ℕ) (s : Store) (tail : ℕ) : ℕ → Store �
 
 -- what `looks` asks and promises: one marked claim l and every combination
 pub record Asks (g : Grid) (s : Store) (tail l : ℕ) : Type 0 where
-  pub sound : Sound g
   pub reach : Reach g s tail
   pub inside : l < claims g
   pub known : mark s l ≡ 1

@@ -2,10 +2,12 @@
 --     ShowsRow   a combination shows a claim's row
 --     Step       from claim l to claim m by combination a: the two are of different cells, a shows both rows, and with l true and m false some rule is broken at a
 --     side_of     how a claim looks at the board: its cell and row, and by which fault bits its steps lead to which rows
+--     other_rows  the rows of the other cell, by a claim's side
 --     aim_of      where the steps of a claim lead
 -- Assumes nothing: these are definitions.
-use Rattle.std.specs.Prelude.{◌≡◌, ℕ, ◌+◌, ◌-◌, ◌*◌, ◌/◌, ◌%◌, ◌<◌, cond, ◌⊎◌, List, nat_lt, slice_index}
-use Rattle.grid.specs.Grid.{Grid, shown_a, shown_b, fault, bit}
+use Rattle.std.specs.Prelude.{◌≡◌, ℕ, ◌+◌, ◌-◌, ◌*◌, ◌/◌, ◌%◌, ◌<◌, cond, ◌⊎◌, List, nat_eq, nat_lt, slice_index}
+use Rattle.grid.specs.Grid.{shown_a, shown_b, fault, bit}
+use Rattle.grid.specs.Grid.{Grid}
 use Rattle.grid.specs.declared.Shape.{Shape}
 use Rattle.scan.specs.declared.Side.{Side}
 
@@ -27,6 +29,10 @@ side_of shape l =
     cond (nat_lt (l / 2) shape.rows_a)
     (side shape.sees_a (l / 2) shape.rows_a (2 * (l % 2) + 1) (2 * (l % 2)))
     (side shape.sees_b (l / 2 - shape.rows_a) 0 (2 + l % 2) (l % 2))
+
+-- The row of the other cell that each combination shows: that cell is B where its first row is B's first, and else A.
+unfoldable pub other_rows : Grid → Side → List ℕ
+other_rows g own = cond (nat_eq own.first g.shape.rows_a) g.row_b g.row_a
 
 -- Where steps lead: `other` has the row of the other cell that each combination shows.
 pub record Aim : Type 0 where

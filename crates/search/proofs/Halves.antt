@@ -17,11 +17,12 @@ use Rattle.answer.specs.Written.{fours, entry_at, IsWalk}
 use Rattle.board.specs.Board.{opposite}
 use Rattle.board.specs.Walk.{Stands, Reaches}
 use Rattle.theory.proofs.Reach.{closed-walk}
-use Rattle.grid.specs.Grid.{Grid, claims, Sound, grid_board}
+use Rattle.grid.specs.Grid.{claims, Sound, grid_board}
+use Rattle.grid.specs.Grid.{Grid}
 use Rattle.spread.specs.Walk.{HalfWalk}
 use Rattle.attempt.specs.Attempt.{Half}
 use Rattle.search.specs.Settle.{WalkWritten}
-use Rattle.attempt.proofs.Fours.{fours-length, fours-append}
+use Rattle.spread.proofs.Back.{fours-length, fours-append}
 
 -- what holds of the entries of each of two lists
 all_append :

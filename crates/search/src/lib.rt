@@ -3,110 +3,56 @@
 // and leaves stands in specs/Settle; the argument in `theory`. Leans on `grid` and `attempt`.
 #![tactic(auto)]
 
-ghost use Rattle.grid.specs.Grid.{grid};
-ghost use Rattle.scan.specs.Reach.{store};
+ghost use Rattle.grid.specs.Held.{held};
 ghost use Rattle.search.specs.Settle.{Settles, Settled, Searches, Searched};
 
 use attempt::attempt;
-use grid::Shape;
+use grid::Grid;
+use scan::{CLAIMS, Store};
 use wires::Claim;
 
-// Places for the most claims.
-const CLAIMS: usize = 1024;
+// What the state holds for a row that is not settled; for a settled one it holds the row's bit. Numbers and no enum, since the
+// bits go to the answer sheet as they stand, in one piece.
+pub const UNSETTLED: u8 = 2;
 
-// The work on one row. Answers 0 where it is settled, from its 0 claim or, where that spread fails, from its 1 claim; where
+// The work on one row. Answers `None` where it is settled, from its 0 claim or, where that spread fails, from its 1 claim; where
 // both fail, the length of the walk that stands in `walk`.
 fn settle(
-    shape: Shape,
-    row_a: &[u8],
-    row_b: &[u8],
-    faults: &[u8],
+    grid: &Grid,
     row: usize,
-    reached: &mut [u8],
-    queue: &mut [u16],
-    from: &mut [u16],
-    by: &mut [u16],
+    store: &mut Store,
     state: &mut [u8],
     walk: &mut [u8],
-) -> usize
-    requires { Settles (grid shape row_a.now row_b.now faults.now) (store reached.old queue.old from.old by.old) row state.old walk.old }
-    ensures { Settled (grid shape row_a.now row_b.now faults.now) row walk.old (store reached.new queue.new from.new by.new) state.new walk.new result }
+) -> Option<usize>
+    requires { Settles (held grid.now) row state.old walk.old }
+    ensures { Settled (held grid.now) row walk.old state.new walk.new result }
 {
-    if state[row] != 2 {
-        return 0;
+    if state[row] != UNSETTLED {
+        return None;
     }
     let zero = (2 * row) as u16;
     let one = zero + 1;
-    let middle = attempt(
-        shape,
-        row_a,
-        row_b,
-        faults,
-        Claim(zero),
-        reached,
-        queue,
-        from,
-        by,
-        state,
-        walk,
-        0,
-    );
-    if middle == 0 {
-        return 0;
-    }
-    attempt(
-        shape,
-        row_a,
-        row_b,
-        faults,
-        Claim(one),
-        reached,
-        queue,
-        from,
-        by,
-        state,
-        walk,
-        middle,
-    )
+    let middle = attempt(grid, Claim(zero), store, state, walk, 0)?;
+    attempt(grid, Claim(one), store, state, walk, middle)
 }
 
-// The work on all rows, in order, up to the first whose spreads both fail. Answers 0 where the state is the first pair, or
+// The work on all rows, in order, up to the first whose spreads both fail. Answers `None` where the state is the first pair, or
 // the length of the walk that stands in `walk`.
-pub fn search(
-    shape: Shape,
-    row_a: &[u8],
-    row_b: &[u8],
-    faults: &[u8],
-    state: &mut [u8],
-    walk: &mut [u8],
-) -> usize
-    requires { Searches (grid shape row_a.now row_b.now faults.now) state.old walk.old }
-    ensures { Searched (grid shape row_a.now row_b.now faults.now) walk.old state.new walk.new result }
+pub fn search(grid: &Grid, state: &mut [u8], walk: &mut [u8]) -> Option<usize>
+    requires { Searches (held grid.now) state.old walk.old }
+    ensures { Searched (held grid.now) walk.old state.new walk.new result }
 {
-    let mut reached = [0u8; CLAIMS];
-    let mut queue = [0u16; CLAIMS];
-    let mut from = [0u16; CLAIMS];
-    let mut by = [0u16; CLAIMS];
-    let rows = shape.rows_a + shape.rows_b;
-    let mut row = 0;
-    while row < rows {
-        let end = settle(
-            shape,
-            row_a,
-            row_b,
-            faults,
-            row,
-            &mut reached,
-            &mut queue,
-            &mut from,
-            &mut by,
-            state,
-            walk,
-        );
-        if end != 0 {
-            return end;
+    let mut store = Store {
+        reached: [0; CLAIMS],
+        queue: [0; CLAIMS],
+        from: [0; CLAIMS],
+        by: [0; CLAIMS],
+        tail: 0,
+    };
+    for row in 0..grid.shape.rows_a + grid.shape.rows_b {
+        if let Some(end) = settle(grid, row, &mut store, state, walk) {
+            return Some(end);
         }
-        row += 1;
     }
-    0
+    None
 }

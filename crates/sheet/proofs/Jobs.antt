@@ -9,8 +9,7 @@ use Rattle.steps.specs.declared.Refusal.{Refusal}
 use Rattle.sheet.specs.declared.Form.{Form}
 use Rattle.sheet.specs.declared.Form.TheVariants.{One, Two}
 use Rattle.sheet.specs.declared.JobHead.{JobHead}
-use Rattle.sheet.specs.declared.JobRead.{JobRead}
-use Rattle.sheet.specs.declared.JobRead.TheVariants as job_read
+use Rattle.std.specs.Prelude.{Result, Ok, Err}
 use Rattle.steps.specs.Step.{Step, got, refused, next}
 use Rattle.sheet.specs.Job.{Job, Head, Verdict, accepted, rejected}
 use Rattle.steps.specs.Outcome.{success, refused_job}
@@ -93,42 +92,42 @@ module _ (f : Form) (s : List ℕ) where
       unfolding read_job job
       no_end w z = rw (e, found-terms.3, found-terms.4, z)
 
-      pub all : (u m : ℕ) → end s q ≡ got u m → job_read.Accepted (head_of H v) ≡ as_job (read_job f s)
+      pub all : (u m : ℕ) → end s q ≡ got u m → Ok (head_of H v) ≡ as_job (read_job f s)
       unfolding read_job job
       all u m z =
           let wires = (head-facts s H at e).2 in
           let count = rules-length H.count (terms_of H.wires) s at found-terms.0 found-terms.2 found-terms.3 in
           let more = found-terms.5 in
           rw (e, found-terms.3, found-terms.4, z)
-          (ap job_read.Accepted (λ i. record { wires = sym wires i; sees_a = H.sees_a; sees_b = H.sees_b; rules = sym count i; excuses = sym more i; pins_at = 1 }))
+          (ap Ok (λ i. record { wires = sym wires i; sees_a = H.sees_a; sees_b = H.sees_b; rules = sym count i; excuses = sym more i; pins_at = 1 }))
 
 -- what a sheet that was taken apart comes to
-apart-jobs : (x : JobRead) (h : JobHead) (w : Refusal) → x ≡ job_read.Accepted h → x ≡ job_read.Refused w → ⊥
+apart-jobs : (x : Result JobHead Refusal) (h : JobHead) (w : Refusal) → x ≡ Ok h → x ≡ Err w → ⊥
 apart-jobs x h w p q = let z : ◌≡◌ {A = ℕ} 0 1 = cc in omega arith
 
-verdict-accepted : (v : Verdict) (x : JobRead) (h : JobHead) → x ≡ as_job v → x ≡ job_read.Accepted h → success 0 0 ≡ outcome_of v
+verdict-accepted : (v : Verdict) (x : Result JobHead Refusal) (h : JobHead) → x ≡ as_job v → x ≡ Ok h → success 0 0 ≡ outcome_of v
 verdict-accepted (accepted j) x h e p = refl
 verdict-accepted (rejected w) x h e p = absurd (apart-jobs x h w p e)
 
-verdict-taken : (v : Verdict) (x : JobRead) (h : JobHead) → x ≡ as_job v → x ≡ job_read.Accepted h → (j : Job) × (v ≡ accepted j) × (h ≡ job_head j)
+verdict-taken : (v : Verdict) (x : Result JobHead Refusal) (h : JobHead) → x ≡ as_job v → x ≡ Ok h → (j : Job) × (v ≡ accepted j) × (h ≡ job_head j)
 verdict-taken (accepted j) x h e p = (j, refl, cc)
 verdict-taken (rejected w) x h e p = absurd (apart-jobs x h w p e)
 
-verdict-refused : (v : Verdict) (x : JobRead) (w : Refusal) → x ≡ as_job v → x ≡ job_read.Refused w → v ≡ rejected w
+verdict-refused : (v : Verdict) (x : Result JobHead Refusal) (w : Refusal) → x ≡ as_job v → x ≡ Err w → v ≡ rejected w
 verdict-refused (accepted j) x w e p = absurd (apart-jobs x _ w e p)
 verdict-refused (rejected w') x w e p = cc
 
-module _ (f : Form) (s : List ℕ) (x : JobRead) where
-  pub job-refused : (w : Refusal) → x ≡ as_job (read_job f s) → x ≡ job_read.Refused w → read_job f s ≡ rejected w
+module _ (f : Form) (s : List ℕ) (x : Result JobHead Refusal) where
+  pub job-refused : (w : Refusal) → x ≡ as_job (read_job f s) → x ≡ Err w → read_job f s ≡ rejected w
   job-refused w e p = verdict-refused (read_job f s) x w e p
 
-  pub job-accepted : (h : JobHead) → x ≡ as_job (read_job f s) → x ≡ job_read.Accepted h → (j : Job) × (read_job f s ≡ accepted j) × (h ≡ job_head j)
+  pub job-accepted : (h : JobHead) → x ≡ as_job (read_job f s) → x ≡ Ok h → (j : Job) × (read_job f s ≡ accepted j) × (h ≡ job_head j)
   job-accepted h e p = verdict-taken (read_job f s) x h e p
 
-  pub read-accepted : (h : JobHead) → x ≡ as_job (read_job f s) → x ≡ job_read.Accepted h → success 0 0 ≡ read_outcome f s
+  pub read-accepted : (h : JobHead) → x ≡ as_job (read_job f s) → x ≡ Ok h → success 0 0 ≡ read_outcome f s
   unfolding read_outcome
   read-accepted h e p = verdict-accepted (read_job f s) x h e p
 
-  pub read-refused : (w : Refusal) → x ≡ as_job (read_job f s) → x ≡ job_read.Refused w → refused_job 1 w ≡ read_outcome f s
+  pub read-refused : (w : Refusal) → x ≡ as_job (read_job f s) → x ≡ Err w → refused_job 1 w ≡ read_outcome f s
   unfolding read_outcome
   read-refused w e p = sym (ap outcome_of (job-refused w e p))

@@ -1,6 +1,6 @@
 -- A bit above all that a set has so far, and a turn of the loop that reads a set. Assumes nothing.
 use mathlib.Core.Path.{◌≡◌, sym, ap, ◌∙◌}
-use Prim.Native.Nat.{ℕ, ◌+◌, ◌-◌, ◌*◌, ◌%◌, ◌^◌, ◌≤◌, ◌<◌}
+use Prim.Native.Nat.{ℕ, suc, ◌+◌, ◌-◌, ◌*◌, ◌%◌, ◌^◌, ◌≤◌, ◌<◌}
 use native.Mathlib.Nat.{lt_of_lt_of_le, zero-add, add-zero, add_assoc, add_comm, one-mul, pow-suc}
 use native.Mathlib.Numerals.{add-one}
 use native.Mathlib.Omega.{arith}
@@ -31,21 +31,22 @@ module _ (b e least : ℕ) (low : b < 2 ^ least) (le : least ≤ e) where
 abbrev pub mask_from : (left limit least bits : ℕ) → Reading ℕ
 mask_from left limit least bits s at = next (entries left limit least s at) (λ es a. got (bits + mask_of es) a)
 
-pub mask_start : (n limit : ℕ) (s : List ℕ) (at : ℕ) → mask n limit s at ≡ mask_from n limit 0 0 s at
+pub mask_start : (n limit : ℕ) (s : List ℕ) (at : ℕ) → mask n limit s at ≡ mask_from (n - 0) limit 0 0 s at
 unfolding mask
-mask_start n limit s at = λ i. next (entries n limit 0 s at) (λ es a. got (sym (zero-add (mask_of es)) i) a)
+mask_start n limit s at =
+    let e : n ≡ n - 0 = omega arith in
+    (λ i. next (entries n limit 0 s at) (λ es a. got (sym (zero-add (mask_of es)) i) a)) ∙ ap (λ (j : ℕ). mask_from j limit 0 0 s at) e
 
 module _ (left limit least bits : ℕ) (s : List ℕ) (at : ℕ) where
-  -- the test is in the form in which the loop has it
-  pub mask-turn : (e n : ℕ) → 0 < left → bits < 2 ^ least → limit ≤ 32 → entry limit least s at ≡ got e n
-      → (bit_or bits ((1 * 2 ^ e) % 2 ^ 32) < 2 ^ (e + 1)) × (mask_from left limit least bits s at ≡ mask_from (left - 1) limit (e + 1) (bit_or bits ((1 * 2 ^ e) % 2 ^ 32)) s n)
+  pub mask-turn : (rest e n : ℕ) → left ≡ suc rest → bits < 2 ^ least → limit ≤ 32 → entry limit least s at ≡ got e n
+      → (bit_or bits ((1 * 2 ^ e) % 2 ^ 32) < 2 ^ (e + 1)) × (mask_from left limit least bits s at ≡ mask_from rest limit (e + 1) (bit_or bits ((1 * 2 ^ e) % 2 ^ 32)) s n)
   unfolding mask_of
-  mask-turn e n l low small h =
+  mask-turn rest e n one low small h =
       let within = entry-bounds limit least s at e n h in
       let sum : bit_or bits ((1 * 2 ^ e) % 2 ^ 32) ≡ bits + 2 ^ e = add-bit bits e least low within.1 (omega arith) in (
         rw sum (bit-lt bits e least low within.1),
-        entries-go limit least s at (λ es a. got (bits + mask_of es) a) left e n l h
-            ∙ (λ i. next (entries (left - 1) limit (e + 1) s n) (λ es a. got ((sym (add_assoc bits (2 ^ e) (mask_of es)) ∙ ap (λ (x : ℕ). x + mask_of es) (sym sum)) i) a)),
+        entries-go limit least s at (λ es a. got (bits + mask_of es) a) left rest e n one h
+            ∙ (λ i. next (entries rest limit (e + 1) s n) (λ es a. got ((sym (add_assoc bits (2 ^ e) (mask_of es)) ∙ ap (λ (x : ℕ). x + mask_of es) (sym sum)) i) a)),
       )
 
   pub mask_done : left ≤ 0 → mask_from left limit least bits s at ≡ got bits at

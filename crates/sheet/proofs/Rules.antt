@@ -1,14 +1,14 @@
--- A turn of the loop that reads rules, or excuses, and stores each, the first of them at `first`. Assumes nothing.
-use mathlib.Core.Path.{◌≡◌, ap, ap₂}
+-- A turn of the loop that reads rules, or excuses, and stores each. Assumes nothing.
+use mathlib.Core.Path.{◌≡◌, ap}
 use mathlib.Core.List.{List, ◌∷◌}
-use Prim.Native.Nat.{ℕ, suc, ◌+◌, ◌-◌, ◌≤◌, ◌<◌}
+use Prim.Native.Nat.{ℕ, zero, suc, ◌+◌, ◌-◌, ◌≤◌, ◌<◌}
 use native.Mathlib.Omega.{arith}
-use lib.ListN.{set}
+use lib.ListN.{set, length}
 use lib.Seq.{sets}
 use Rattle.steps.specs.declared.Refusal.{Refusal}
-use Rattle.steps.specs.Step.{got, refused, next, Reading}
+use Rattle.steps.specs.Step.{Step, got, refused, next, Reading}
 use Rattle.sheet.specs.JobSheet.{counted_mask, rules}
-use Rattle.sheet.specs.JobFound.{rules_pass, kept}
+use Rattle.sheet.specs.JobFound.{rules_pass, kept, cons_of}
 use Rattle.steps.proofs.Entries.{assoc}
 
 -- what is left of n rules, of which nothing but the place is told
@@ -19,11 +19,8 @@ pub rules-start : (n terms : ℕ) (s : List ℕ) (at : ℕ) → rules_pass n ter
 unfolding rules_pass
 rules-start n terms s at = let e : n ≡ n - 0 = omega arith in ap (λ (j : ℕ). rules_from j terms n s at) e
 
-pub kept-start : (n terms : ℕ) (s : List ℕ) (at : ℕ) (buf : List ℕ) (first : ℕ) → sets buf first (kept n terms s at) ≡ sets buf (first + 0) (kept (n - 0) terms s at)
-kept-start n terms s at buf first =
-    let e : n ≡ n - 0 = omega arith in
-    let p : first ≡ first + 0 = omega arith in
-    ap₂ (λ (j k : ℕ). sets buf k (kept j terms s at)) e p
+pub kept-start : (n terms : ℕ) (s : List ℕ) (at : ℕ) (buf : List ℕ) → sets buf 0 (kept n terms s at) ≡ sets buf 0 (kept (n - 0) terms s at)
+kept-start n terms s at buf = let e : n ≡ n - 0 = omega arith in ap (λ (j : ℕ). sets buf 0 (kept j terms s at)) e
 
 module _ (n i terms : ℕ) (s : List ℕ) (at : ℕ) where
   module _ (more : i < n) where
@@ -38,17 +35,17 @@ module _ (n i terms : ℕ) (s : List ℕ) (at : ℕ) where
     unfolding rules
     rules-stop w h = rw (one, h)
 
-    -- the rule that was read is stored at first + i
-    pub kept-go : (buf : List ℕ) (first r a : ℕ) → counted_mask terms terms s at ≡ got r a
-        → sets buf (first + i) (kept (n - i) terms s at) ≡ sets (set buf (first + i) r) (first + (i + 1)) (kept (n - (i + 1)) terms s a)
+    -- the rule that was read is stored at i
+    pub kept-go : (buf : List ℕ) (r a : ℕ) → counted_mask terms terms s at ≡ got r a
+        → sets buf i (kept (n - i) terms s at) ≡ sets (set buf i r) (i + 1) (kept (n - (i + 1)) terms s a)
     unfolding kept
-    kept-go buf first r a h =
-        let p : suc (first + i) ≡ first + (i + 1) = omega arith in
-        rw (one, h) (ap (λ (k : ℕ). sets (set buf (first + i) r) k (kept (n - (i + 1)) terms s a)) p)
+    kept-go buf r a h =
+        let p : suc i ≡ i + 1 = omega arith in
+        rw (one, h) (ap (λ (k : ℕ). sets (set buf i r) k (kept (n - (i + 1)) terms s a)) p)
 
-    pub kept-stop : (buf : List ℕ) (first : ℕ) (w : Refusal) → counted_mask terms terms s at ≡ refused w → sets buf first (kept (n - i) terms s at) ≡ buf
+    pub kept-stop : (buf : List ℕ) (w : Refusal) → counted_mask terms terms s at ≡ refused w → sets buf i (kept (n - i) terms s at) ≡ buf
     unfolding kept
-    kept-stop buf first w h = rw (one, h)
+    kept-stop buf w h = rw (one, h)
 
   module _ (all : n ≤ i) where
     none : n - i ≡ 0
@@ -58,6 +55,16 @@ module _ (n i terms : ℕ) (s : List ℕ) (at : ℕ) where
     unfolding rules
     rules-done = rw none
 
-    pub kept-done : (buf : List ℕ) (first : ℕ) → sets buf first (kept (n - i) terms s at) ≡ buf
+    pub kept-done : (buf : List ℕ) → sets buf i (kept (n - i) terms s at) ≡ buf
     unfolding kept
-    kept-done buf first = rw none
+    kept-done buf = rw none
+
+-- no more are stored than were asked for
+cons-few : (t : Step ℕ) (f : ℕ → List ℕ) (n : ℕ) → ((m : ℕ) → length (f m) ≤ n) → length (cons_of t f) ≤ suc n
+cons-few (got r m) f n few = let rest = few m in omega arith
+cons-few (refused w) f n few = omega arith
+
+pub kept-few : (n terms : ℕ) (s : List ℕ) (at : ℕ) → length (kept n terms s at) ≤ n
+unfolding kept
+kept-few zero terms s at = omega arith
+kept-few (suc n) terms s at = cons-few (counted_mask terms terms s at) (λ after. kept n terms s after) n (λ m. kept-few n terms s m)

@@ -1,10 +1,9 @@
--- What the reader's enums say of the definitions' answers, and what it leaves in the lent masks: the rules, and after them the excuses. Assumes nothing: these are definitions.
-use Rattle.std.specs.Prelude.{ℕ, zero, suc, List, [], ◌∷◌, ◌++◌, length}
+-- What the reader answers of the definitions' answers, and what it leaves in the lent masks: the rules, and after them the excuses. Assumes nothing: these are definitions.
+use Rattle.std.specs.Prelude.{ℕ, zero, suc, List, [], ◌∷◌, ◌++◌, length, Result, Ok, Err}
 use Rattle.sheet.specs.declared.Form.{Form}
 use Rattle.sheet.specs.declared.Form.TheVariants.{One, Two}
 use Rattle.sheet.specs.declared.JobHead.{JobHead}
-use Rattle.sheet.specs.declared.JobRead.{JobRead}
-use Rattle.sheet.specs.declared.JobRead.TheVariants as job_read
+use Rattle.steps.specs.declared.Refusal.{Refusal}
 use Rattle.steps.specs.Step.{Step, got, refused, Reading, ◌>>=◌, give}
 use Rattle.sheet.specs.Job.{Job, Head, Verdict, accepted, rejected}
 use Rattle.steps.specs.Bytes.{entries, word_count}
@@ -39,9 +38,9 @@ terms_pass f n k = do
 abbrev pub job_head : Job → JobHead
 job_head j = record { wires = length j.pins; sees_a = j.sees_a; sees_b = j.sees_b; rules = length j.rules; excuses = length j.excuses; pins_at = 1 }
 
-abbrev pub as_job : Verdict → JobRead
-as_job (accepted j) = job_read.Accepted (job_head j)
-as_job (rejected w) = job_read.Refused w
+abbrev pub as_job : Verdict → Result JobHead Refusal
+as_job (accepted j) = Ok (job_head j)
+as_job (rejected w) = Err w
 
 abbrev pub cons_of : Step ℕ → (ℕ → List ℕ) → List ℕ
 cons_of (got r after) f = r ∷ f after

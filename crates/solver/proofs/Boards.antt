@@ -5,16 +5,16 @@
 --     strikes                          the excuses are there, and of wires' terms
 --     sound, board-solved              filled arrays are a sound grid, and its board is solved as that of the job
 -- Assumes nothing.
-use mathlib.Core.Path.{◌≡◌, refl, sym, subst, ◌∙◌}
+use mathlib.Core.Path.{◌≡◌, refl, sym, ap, subst, ◌∙◌}
 use mathlib.Core.List.{List, ◌++◌}
-use Prim.Native.Nat.{ℕ, ◌+◌, ◌*◌, ◌%◌, ◌^◌, ◌<◌, ◌≤◌}
+use Prim.Native.Nat.{ℕ, ◌+◌, ◌-◌, ◌*◌, ◌%◌, ◌^◌, ◌<◌, ◌≤◌}
 use native.Mathlib.Omega.{arith}
 use borrow.Author.Tests.{eqb-true, eq-eqb}
 use lib.Count.{ones}
 use lib.Dec.{eqb}
-use lib.ListN.{length, get_or, take, drop}
+use lib.ListN.{length, get_or, take, drop, length-append, length-drop, get_or-append}
 use lib.Pow.{pow_mono}
-use lib.Seq.{get_or-drop}
+use lib.Seq.{get_or-drop, get_or-take, length-take-le}
 use Rattle.steps.specs.declared.Outcome.{Outcome}
 use Rattle.steps.specs.Outcome.{refusal}
 use Rattle.sheet.specs.declared.Form.{Form}
@@ -26,10 +26,11 @@ use Rattle.board.specs.Board.{Board, Shows}
 use Rattle.board.specs.JobBoard.{head_board, Sized}
 use Rattle.board.proofs.Accepting.{Taken}
 use Rattle.board.proofs.Checked.{shows}
-use Rattle.board.proofs.Rules.{front-faultb, behind, behind-is, excuses-there}
+use Rattle.board.proofs.Rules.{faultb-iff}
 use Rattle.theory.specs.Same.{Same}
 use Rattle.theory.proofs.Same.{same-sym, same-shows, stands_same, first-same}
-use Rattle.faults.specs.Table.{Faults, Struck, Strikes, bit as digit}
+use Rattle.cubes.specs.declared.table.Table.{Table}
+use Rattle.faults.specs.Table.{Faults, Struck, bit as digit}
 use Rattle.grid.specs.declared.Shape.{Shape}
 use Rattle.grid.specs.Grid.{grid, bit, Sound, grid_board}
 use Rattle.grid.specs.Filled.{Asks, Rows, Faulted}
@@ -66,8 +67,8 @@ module _ {h : JobHead} {masks : List ℕ} (z : Sized h masks) where
   are : combinations ≡ 2 ^ h.wires
   are = omega (arith, few)
 
-  pub unpack-room : (combinations ≤ 16384) × (combinations ≤ 4096)
-  unpack-room = (omega (arith, few, are), omega (arith, few, are))
+  pub unpack-room : combinations ≤ 4096
+  unpack-room = omega (arith, few, are)
 
   pub asks-a : (s : List ℕ) → length s ≡ 4096 → Asks h.wires h.sees_a s
   asks-a s l = record { few = omega (arith, z.wires); mask = z.mask_a; few_seen = z.sees_a; room = omega (arith, few) }
@@ -78,20 +79,43 @@ module _ {h : JobHead} {masks : List ℕ} (z : Sized h masks) where
   abbrev shape : (ra rb : ℕ) → Shape
   shape ra rb = record { wires = h.wires; sees_a = h.sees_a; sees_b = h.sees_b; rows_a = ra; rows_b = rb; combinations = combinations }
 
-  pub strikes : (s : List ℕ) → length s ≡ 1024 → Strikes h.wires (behind h masks) h.excuses s
-  strikes s l = record {
-    wires = omega (arith, z.wires);
-    there = excuses-there h masks z;
-    small = λ i m. rw (behind-is h masks, get_or-drop h.rules masks i 0) (z.excuses i m);
-    size = l;
+  -- the slice of the masks where the excuses stand
+  abbrev excuses : List ℕ
+  excuses = take (h.rules + h.excuses - h.rules) (drop h.rules masks)
+
+  excuses-are : excuses ≡ take h.excuses (drop h.rules masks)
+  excuses-are = ap (λ (k : ℕ). take k (drop h.rules masks)) (omega arith)
+
+  pub strikes : (n : ℕ) → n ≡ h.wires → (i : ℕ) → i < length excuses → get_or excuses i 0 < 2 ^ (2 * n)
+  strikes n e i m =
+      let l : i < h.excuses = omega (arith, ap length excuses-are, length-take-le h.excuses (drop h.rules masks) (omega (arith, z.count, length-drop h.rules masks))) in
+      rw (e, excuses-are, get_or-take h.excuses (drop h.rules masks) i 0 l, get_or-drop h.rules masks i 0) (z.excuses i l)
+
+  -- the faults of the combinations, and what the array had behind them
+  unpacked-front : (table s u : List ℕ) → combinations ≤ length s
+      → Faulted (length (take combinations s)) table (take combinations s) u → Faulted combinations table s (u ++ drop combinations s)
+  unpacked-front table s u l f = record {
+    long = omega (arith, f.long, front, length-append u (drop combinations s), length-drop combinations s);
+    small = λ a h. rw (get_or-append u (drop combinations s) 0 a (omega (arith, f.long, front))) (f.small a (omega (arith, front)));
+    bits = λ a x y h hx hy. rw (get_or-append u (drop combinations s) 0 a (omega (arith, f.long, front))) (f.bits a x y (omega (arith, front)) hx hy);
   }
+    where
+      front : length (take combinations s) ≡ combinations
+      front = length-take-le combinations s l
 
   -- blank arrays were filled: the table of the rules' faults is all, struck where the excuses are it is table, its faults are fs, and the rows shown to A
   -- and to B are xs and ys
-  module _ (blank : List ℕ) (room : length blank ≡ 4096) (ra rb : ℕ) (all table fs xs ys : List ℕ)
+  module _ (blank : List ℕ) (long : length blank ≡ 4096) (ra rb : ℕ) (all table : Table) (front xs ys : List ℕ)
       (is-ra : ra ≡ 2 ^ ones h.sees_a) (is-rb : rb ≡ 2 ^ ones h.sees_b)
-      (told : Faults h.wires masks h.rules all) (struck : Struck h.wires (behind h masks) h.excuses all table) (unpacked : Faulted combinations table blank fs) (rows_a : Rows h.wires h.sees_a blank xs)
-      (rows_b : Rows h.wires h.sees_b blank ys) where
+      (told : Faults h.wires (take h.rules masks) all) (struck : Struck excuses all table)
+      (taken : Faulted (length (take combinations blank)) table.words (take combinations blank) front)
+      (rows_a : Rows h.wires h.sees_a blank xs) (rows_b : Rows h.wires h.sees_b blank ys) where
+    abbrev fs : List ℕ
+    fs = front ++ drop combinations blank
+
+    unpacked : Faulted combinations table.words blank fs
+    unpacked = unpacked-front table.words blank front (omega (arith, unpack-room)) taken
+
     pub sound : Sound (grid (shape ra rb) xs ys fs)
     sound = record {
       sizes = record {
@@ -104,9 +128,9 @@ module _ {h : JobHead} {masks : List ℕ} (z : Sized h masks) where
         few_b = let l : 2 ^ ones h.sees_b ≤ 2 ^ 8 = pow_mono z.sees_b in omega arith;
         few = omega (arith, z.wires);
       };
-      long_a = omega (arith, unpack-room.1, rows_a.long);
-      long_b = omega (arith, unpack-room.1, rows_b.long);
-      long_faults = omega (arith, unpack-room.1, unpacked.long);
+      long_a = omega (arith, unpack-room, rows_a.long);
+      long_b = omega (arith, unpack-room, rows_b.long);
+      long_faults = omega (arith, unpack-room, unpacked.long);
       is_a = λ a l. rows_a.rows a (rw are at l);
       is_b = λ a l. rows_b.rows a (rw are at l);
     }
@@ -114,11 +138,11 @@ module _ {h : JobHead} {masks : List ℕ} (z : Sized h masks) where
     breaks-same : (a x y : ℕ) → a < 2 ^ h.wires → x < 2 → y < 2
         → (head_board h masks).breaks a x y ≡ eqb (bit (get_or fs a 0) (2 * x + y)) 1
     breaks-same a x y l lx ly =
-        let digits : bit (get_or fs a 0) (2 * x + y) ≡ digit table a x y = unpacked.bits a x y (rw are l) lx ly in
+        let digits : bit (get_or fs a 0) (2 * x + y) ≡ digit table.words a x y = unpacked.bits a x y (rw are l) lx ly in
         let at : Setting h.wires a x y = record { wires = omega (arith, z.wires); below = l; cell_a = lx; cell_b = ly } in
         let tells = told.tells a x y at in
-        let left = rw (behind-is h masks) at (struck.tells a x y at) in
-        let test = front-faultb h.wires masks h.rules h.excuses a x y z.count in
+        let left = (rw (told.wires, excuses-are) at struck.tells) a x y at in
+        let test = faultb-iff h.wires (take h.rules masks) (take h.excuses (drop h.rules masks)) a x y in
         same_test _ _ (λ e. let t = test.0 e in eq-eqb _ 1 (digits ∙ left.1 (tells.1 t.0, t.1)))
         (λ e. let t = left.0 (sym digits ∙ eqb-true _ 1 e) in test.1 (tells.0 t.0, t.1))
 

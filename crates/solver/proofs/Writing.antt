@@ -1,35 +1,25 @@
--- Sheets that are written piece by piece from the front of a buffer.
+-- Sheets that are written piece by piece on a page.
 --     wrote                        a run of stores from place 0 is the sheet, and what the buffer held beyond it
 --     front_length                 how long the first of two tables is that stand one after the other
---     first-room, second-room, third-room      there is room for each piece of their sheet
+--     first-asks, second-asks, third-room      what the writer of each piece of their sheet asks
 --     state-wrote                  the three pieces are their sheet
---     walk-wrote                   the four pieces of the sheet of a walk are it
+--     counts, walk-room            there is room for the counts of a walk, and for its bytes
 -- Assumes nothing.
-use mathlib.Core.Path.{◌≡◌, ap, ◌∙◌}
+use mathlib.Core.Path.{◌≡◌, sym, ap, subst, ◌∙◌}
 use mathlib.Core.List.{List, ◌++◌}
-use Prim.Native.Nat.{ℕ, ◌+◌, ◌-◌, ◌/◌, ◌<◌, ◌≤◌}
+use Prim.Native.Nat.{ℕ, ◌-◌, ◌/◌, ◌<◌, ◌≤◌}
 use native.Mathlib.Omega.{arith}
-use lib.ListN.{length, take, drop, length-append, length-drop}
-use lib.Seq.{sets, length-sets, take_all, length-take-le}
-use Rattle.answer.specs.AnswerSheet.{longest}
+use lib.ListN.{length, take, drop, length-drop}
+use lib.Seq.{sets, take_all, length-take-le}
+use Rattle.steps.proofs.Runs.{at_front}
+use Rattle.answer.specs.declared.page.Page.{Page}
+use Rattle.answer.specs.Page.{Room, Wrote}
 use Rattle.answer.specs.Written.{two, table, tables_sheet}
-use Rattle.steps.proofs.Runs.{at_front, joined}
-use Rattle.answer.proofs.Sheets.{tables-length}
-use Rattle.solver.specs.Solved.{Wrote}
+use Rattle.solver.specs.Solved.{Wrote as Written}
+use Rattle.answer.proofs.Pieces.{Three, both, three, first_room, next_room}
 
-pub wrote : (sheet l exit : List ℕ) → length sheet ≤ length l → exit ≡ sets l 0 sheet → Wrote sheet l exit
+pub wrote : (sheet l exit : List ℕ) → length sheet ≤ length l → exit ≡ sets l 0 sheet → Written sheet l exit
 wrote sheet l exit fits e = e ∙ at_front l sheet fits
-
-module _ (xs ys l l₁ l₂ l₃ : List ℕ) (m₁ m₂ m₃ : ℕ) (room : 6 + length xs + length ys ≤ length l)
-    (e₁ : l₁ ≡ sets l 0 (table xs)) (p₁ : m₁ ≡ 0 + 2 + length xs)
-    (e₂ : l₂ ≡ sets l₁ m₁ (table ys)) (p₂ : m₂ ≡ m₁ + 2 + length ys)
-    (e₃ : l₃ ≡ sets l₂ m₂ (two 0)) (p₃ : m₃ ≡ m₂ + 2) where
-  tables_wrote : (m₃ ≡ length (tables_sheet xs ys)) × Wrote (tables_sheet xs ys) l l₃
-  tables_wrote =
-      let first = joined l l₁ l₂ 0 m₁ (table xs) (table ys) e₁ (omega arith) e₂ in
-      let long : length (table xs ++ table ys) ≡ length (table xs) + length (table ys) = length-append (table xs) (table ys) in
-      let all = joined l l₂ l₃ 0 m₂ (table xs ++ table ys) (two 0) first (omega arith) e₃ in
-      (omega (arith, tables-length xs ys), wrote (tables_sheet xs ys) l l₃ (omega (arith, tables-length xs ys)) all)
 
 -- the two tables stand one after the other in `state`, the first of them of n rows
 module _ (state : List ℕ) (n : ℕ) (within : n ≤ length state) where
@@ -45,45 +35,34 @@ module _ (state : List ℕ) (n : ℕ) (within : n ≤ length state) where
   rest-is : rest ≡ drop n state
   rest-is = take_all (length state - n) (drop n state) (omega (arith, drop-length))
 
-  rest-length : length rest ≡ length state - n
-  rest-length = ap length rest-is ∙ drop-length
+  module _ (few : length state ≤ 512) (p : Page) (room : Room p (tables_sheet (take n state) (drop n state))) where
+    abbrev tables : Three p (table (take n state)) (table (drop n state)) (two 0)
+    tables = three (table (take n state)) (table (drop n state)) (two 0) room
 
-  module _ (few : length state ≤ 512) (l : List ℕ) (room : longest ≤ length l) where
-    pub first-room : (0 + 2 + length (take n state) ≤ length l) × (length (take n state) < 65536)
-    first-room = (omega (arith, front_length), omega (arith, front_length))
+    pub first-asks : record { room : Room p (table (take n state)); few : length (take n state) < 65536 }
+    first-asks = record { room = tables.first; few = omega (arith, front_length) }
 
-    module _ (l₁ : List ℕ) (m₁ : ℕ) (e₁ : l₁ ≡ sets l 0 (table (take n state))) (p₁ : m₁ ≡ 0 + 2 + length (take n state)) where
-      long₁ : length l₁ ≡ length l
-      long₁ = ap length e₁ ∙ length-sets l 0 (table (take n state))
+    module _ {p₁ : Page} (x₁ : Wrote p (table (take n state)) p₁) where
+      pub second-asks : record { room : Room p₁ (table rest); few : length rest < 65536 }
+      second-asks = record {
+        room = subst (λ (l : List ℕ). Room p₁ (table l)) (sym rest-is) (tables.second x₁);
+        few = omega (arith, drop-length, ap length rest-is);
+      }
 
-      pub second-room : (m₁ + 2 + length rest ≤ length l₁) × (length rest < 65536)
-      second-room = (omega (arith, front_length, rest-length, long₁), omega (arith, rest-length))
+      module _ {p₂ : Page} (x₂ : Wrote p₁ (table rest) p₂) where
+        second : Wrote p₁ (table (drop n state)) p₂
+        second = subst (λ (l : List ℕ). Wrote p₁ (table l) p₂) rest-is x₂
 
-      module _ (l₂ : List ℕ) (m₂ : ℕ) (e₂ : l₂ ≡ sets l₁ m₁ (table rest)) (p₂ : m₂ ≡ m₁ + 2 + length rest) where
-        pub third-room : m₂ + 2 ≤ length l₂
-        third-room = let long₂ = ap length e₂ ∙ length-sets l₁ m₁ (table rest) in omega (arith, front_length, rest-length, long₁)
+        pub third-room : Room p₂ (two 0)
+        third-room = tables.third x₁ second
 
-        pub state-wrote : (l₃ : List ℕ) (m₃ : ℕ) → l₃ ≡ sets l₂ m₂ (two 0) → m₃ ≡ m₂ + 2
-            → (m₃ ≡ length (tables_sheet (take n state) (drop n state))) × Wrote (tables_sheet (take n state) (drop n state)) l l₃
-        state-wrote l₃ m₃ e₃ p₃ =
-            tables_wrote (take n state) (drop n state) l l₁ l₂ l₃ m₁ m₂ m₃ (omega (arith, drop-length, front_length)) e₁ p₁
-            (e₂ ∙ ap (λ (ys : List ℕ). sets l₁ m₁ (table ys)) rest-is)
-            (p₂ ∙ ap (λ (ys : List ℕ). m₁ + 2 + length ys) rest-is)
-            e₃
-            p₃
+        pub state-wrote : {p₃ : Page} → Wrote p₂ (two 0) p₃ → Wrote p (tables_sheet (take n state) (drop n state)) p₃
+        state-wrote x₃ = both (both x₁ second) x₃
 
 -- the bytes of a walk, after its three counts
-module _ (bytes : List ℕ) (few : length bytes ≤ 8184) (l : List ℕ) (room : longest ≤ length l) (l₁ l₂ l₃ l₄ : List ℕ) (m₁ m₂ m₃ m₄ : ℕ)
-    (e₁ : l₁ ≡ sets l 0 (two 0)) (p₁ : m₁ ≡ 0 + 2)
-    (e₂ : l₂ ≡ sets l₁ m₁ (two 0)) (p₂ : m₂ ≡ m₁ + 2)
-    (e₃ : l₃ ≡ sets l₂ m₂ (two (length bytes / 4))) (p₃ : m₃ ≡ m₂ + 2)
-    (e₄ : l₄ ≡ sets l₃ m₃ bytes) (p₄ : m₄ ≡ m₃ + length bytes) where
-  abbrev counts : List ℕ
-  counts = two 0 ++ two 0 ++ two (length bytes / 4)
+module _ (bytes : List ℕ) {p : Page} (room : Room p (two 0 ++ two 0 ++ two (length bytes / 4) ++ bytes)) where
+  pub counts : Three p (two 0) (two 0) (two (length bytes / 4))
+  counts = three (two 0) (two 0) (two (length bytes / 4)) (first_room p (two 0 ++ two 0 ++ two (length bytes / 4)) bytes room)
 
-  pub walk-wrote : (m₄ ≡ 6 + length bytes) × Wrote (counts ++ bytes) l l₄
-  walk-wrote =
-      let second = joined l l₁ l₂ 0 m₁ (two 0) (two 0) e₁ (omega arith) e₂ in
-      let third = joined l l₂ l₃ 0 m₂ (two 0 ++ two 0) (two (length bytes / 4)) second (omega arith) e₃ in
-      let all = joined l l₃ l₄ 0 m₃ counts bytes third (omega arith) e₄ in
-      (omega arith, wrote (counts ++ bytes) l l₄ (omega arith) all)
+  pub walk-room : {q : Page} → Wrote p (two 0 ++ two 0 ++ two (length bytes / 4)) q → Room q bytes
+  walk-room x = next_room x bytes room

@@ -1,60 +1,59 @@
 -- The loop of `spread`: how it begins, one turn, and the end.
 -- Assumes nothing.
 use Prim.Native.Nat.{ℕ, ◌+◌, ◌<◌, ◌≤◌}
-use mathlib.Core.Path.{◌≡◌, refl, sym, ap, ◌∙◌}
+use mathlib.Core.Path.{◌≡◌, sym, ap, ◌∙◌}
 use mathlib.Core.List.{List, ◌++◌}
 use native.Mathlib.Nat.{not-suc-le-zero}
 use native.Mathlib.Decide.{ℕ_discrete}
 use native.Mathlib.Omega.{arith}
 use borrow.Author.Count.{below_more}
-use borrow.Author.Fill.{fill_more}
-use lib.ListN.{length, get_or, set, drop, replicate, length-set, length-replicate, get_or-replicate, get_or-append}
-use lib.Seq.{get_or-set_same, get_or-set_other}
-use Rattle.grid.specs.Grid.{Grid, claims, Sound}
+use lib.ListN.{length, get_or, set, take, drop, replicate, length-set, length-append, length-drop, length-replicate, get_or-replicate, get_or-append}
+use lib.Seq.{get_or-set_same, get_or-set_other, length-take-le}
+use Rattle.grid.specs.Grid.{claims}
+use Rattle.grid.specs.Grid.{Grid}
 use Rattle.scan.specs.Steps.{Step}
-use Rattle.scan.specs.Reach.{Store, store, mark, entry, marks, Room, Placed, Reach, Same, Asks, Swept}
+use Rattle.scan.specs.Reach.{mark, entry, marks, Room, Placed, Reach, Swept}
+use Rattle.scan.specs.declared.Store.{Store}
 use Rattle.scan.proofs.Marks.{marks-add, marks-none}
-use Rattle.scan.proofs.Laws.{tail-le, same-trans}
+use Rattle.scan.proofs.Laws.{tail-le}
 use Rattle.spread.specs.Spread.{Closed, Spread}
 
-pub record Front (g : Grid) (start : ℕ) (s t : Store) (tail head : ℕ) : Type 0 where
-  pub same : Same s t
+pub record Front (g : Grid) (start : ℕ) (t : Store) (tail head : ℕ) : Type 0 where
   pub at : head ≤ tail
   pub some : 0 < tail
   pub first : entry t 0 ≡ start
   pub reach : Reach g t tail
   pub closed : Closed g t head
 
--- the loop of `clear`: the first i marks are 0, and the rest is as it was
-pub record Clears (l : List ℕ) (n : ℕ) (m : List ℕ) (i : ℕ) : Type 0 where
-  pub at : i ≤ n
-  pub long : length m ≡ length l
-  pub front : m ≡ replicate i 0 ++ drop i l
-
-pub clears-turn : {l : List ℕ} {n : ℕ} {m : List ℕ} {i : ℕ} → n ≤ length l → Clears l n m i → i < n → Clears l n (set m i 0) (i + 1)
-clears-turn {l} {i = i} z w h = record {
-  at = omega arith;
-  long = simp length-set w.long;
-  front = ap (λ (x : List ℕ). set x i 0) w.front ∙ fill_more i 0 l (omega arith);
-}
-
--- the first n of a cleared array are 0
-cleared : (n : ℕ) (l m : List ℕ) → m ≡ replicate n 0 ++ drop n l → (c : ℕ) → c < n → get_or m c 0 ≡ 0
-cleared n l m e c h = rw e (get_or-append (replicate n 0) (drop n l) 0 c (rw length-replicate h) ∙ get_or-replicate n c 0 0 h)
-
 only : (i : ℕ) → i < 1 → i ≡ 0
 only i h = omega arith
 
 -- one claim is marked and queued
 abbrev pub started : ℕ → List ℕ → Store → Store
-started start r s = store (set r start 1) (set s.queue 0 start) s.from s.by
+started start r s = record { reached = set r start 1; queue = set s.queue 0 start; from = s.from; by = s.by; tail = 1 }
 
-module _ {g : Grid} {start : ℕ} {s : Store} {r : List ℕ} (inside : start < claims g) (room : Room g s) (long : length r ≡ length s.reached) (clear : r ≡ replicate (claims g) 0 ++ drop (claims g) s.reached) where
+-- the marks, of which the first were filled with 0
+module _ {g : Grid} {start : ℕ} (s : Store) (inside : start < claims g) (room : Room g s) (front : List ℕ) (clear : front ≡ replicate (length (take (claims g) s.reached)) 0) where
+  abbrev r : List ℕ
+  r = front ++ drop (claims g) s.reached
+
   abbrev s₁ : Store
   s₁ = started start r s
 
+  some-long : length (take (claims g) s.reached) ≡ claims g
+  some-long = length-take-le (claims g) s.reached room.reached
+
+  front-is : front ≡ replicate (claims g) 0
+  front-is = clear ∙ ap (λ (n : ℕ). replicate n 0) some-long
+
+  front-long : length front ≡ claims g
+  front-long = ap length front-is ∙ length-replicate (claims g) 0
+
+  long : length r ≡ length s.reached
+  long = simp (length-append, length-drop) (omega (arith, front-long, room.reached))
+
   none : (c : ℕ) → c < claims g → get_or r c 0 ≡ 0
-  none = cleared (claims g) s.reached r clear
+  none c h = get_or-append front (drop (claims g) s.reached) 0 c (omega (arith, front-long)) ∙ rw front-is (get_or-replicate (claims g) c 0 0 h)
 
   first : entry s₁ 0 ≡ start
   first = get_or-set_same s.queue 0 start 0 (omega (arith, room.queue))
@@ -97,9 +96,8 @@ module _ {g : Grid} {start : ℕ} {s : Store} {r : List ℕ} (inside : start < c
     parents = λ i h k. absurd (omega arith);
   }
 
-  pub front-start : Front g start (started start r s) (started start r s) 1 0
+  pub front-start : Front g start (started start r s) 1 0
   front-start = record {
-    same = record { reached = refl; queue = refl; from = refl; by = refl };
     at = omega arith;
     some = omega arith;
     first = first;
@@ -107,13 +105,9 @@ module _ {g : Grid} {start : ℕ} {s : Store} {r : List ℕ} (inside : start < c
     closed = λ i h. absurd (not-suc-le-zero h);
   }
 
-module _ {g : Grid} {start : ℕ} {s t : Store} {tail head : ℕ} (w : Front g start s t tail head) where
-  pub front-ask : Sound g → head < tail → Asks g t tail (entry t head)
-  front-ask ok h = record { sound = ok; reach = w.reach; inside = w.reach.below head h; known = w.reach.marked head h }
-
-  pub front-turn : {u : Store} {last : ℕ} → head < tail → Swept g t tail (entry t head) u last → Front g start s u last (head + 1)
+module _ {g : Grid} {start : ℕ} {t : Store} {tail head : ℕ} (w : Front g start t tail head) where
+  pub front-turn : {u : Store} {last : ℕ} → head < tail → Swept g t tail (entry t head) u last → Front g start u last (head + 1)
   front-turn {u} h q = record {
-    same = same-trans w.same q.grown.same;
     at = omega (arith, q.grown.longer);
     some = omega (arith, q.grown.longer);
     first = q.grown.kept 0 w.some ∙ w.first;

@@ -27,12 +27,15 @@ use Rattle.board.proofs.Steps.{contraposition, step_from, step-to, step-combinat
 use Rattle.theory.specs.Solve.{Spread as BoardSpread, Good}
 use Rattle.theory.proofs.Reach.{reach-refl, reach_step, reach-trans, reach-cast}
 use Rattle.theory.proofs.Spreads.{spread-has, good-or-clash}
-use Rattle.grid.specs.Grid.{Grid, claims, fault, bit, Sound, grid_board}
+use Rattle.grid.specs.Grid.{claims, fault, bit, Sound, grid_board}
+use Rattle.grid.specs.Grid.{Grid}
 use Rattle.scan.specs.Steps.{Step}
 use Rattle.scan.specs.Steps.Step.{a-to-b, b-to-a}
-use Rattle.scan.specs.Reach.{Store, mark, entry, marked, Placed, Parent}
+use Rattle.scan.specs.Reach.{mark, entry, marked, Placed, Parent}
+use Rattle.scan.specs.declared.Store.{Store}
 use Rattle.scan.proofs.Sizes.{shows}
 use Rattle.spread.specs.Spread.{Spread}
+use Rattle.answer.specs.declared.page.Page.{Page}
 use Rattle.spread.specs.Walk.{Chain, Backs, Written, HalfWalk}
 use Rattle.spread.specs.Walk.Chain.{here, edge}
 
@@ -170,7 +173,7 @@ module _ {g : Grid} {c : ℕ} {s : Store} {r : ℕ} (ok : Sound g) (inside : c <
   pub half-backs : {at : ℕ} {out : List ℕ} → at + 4 * claims g ≤ length out + 4 → Backs s.queue s.from s.by r c (opposite c) at out
   half-backs l = spread-backs h placed (omega (arith, h.few))
 
-  pub half-walk : {at : ℕ} {out next : List ℕ} {last : ℕ} (w : Written s.from s.by r c (opposite c) at out next last) → HalfWalk g c w.entries
+  pub half-walk : {p q : Page} (w : Written s.from s.by r c (opposite c) p q) → HalfWalk g c w.entries
   half-walk w =
       let k = chain-goes h placed w.chain in
       let b : start w.entries (opposite c) ≡ c = k.0 ∙ opposite-opposite c in

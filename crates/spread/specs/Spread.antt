@@ -1,17 +1,17 @@
--- What the spread asks of the lent arrays, and what it promises of them.
+-- What the spread asks, and what it promises of the store.
 --     Starts     what `spread` asks
 --     Closed     no step leads from the first n queue entries to a claim that is not marked
 --     Spread     every claim to which steps lead from the start is marked, and no other
 -- Assumes nothing: these are definitions.
 use Rattle.std.specs.Prelude.{ℕ, ◌<◌, ◌≤◌, ◌≡◌}
-use Rattle.grid.specs.Grid.{Grid, claims, Sound}
+use Rattle.grid.specs.Grid.{claims}
+use Rattle.grid.specs.Grid.{Grid}
 use Rattle.scan.specs.Steps.{Step}
-use Rattle.scan.specs.Reach.{Store, mark, entry, Room, Reach}
+use Rattle.scan.specs.Reach.{mark, entry, Reach}
+use Rattle.scan.specs.declared.Store.{Store}
 
 -- what `spread` asks and promises
-pub record Starts (g : Grid) (s : Store) (start : ℕ) : Type 0 where
-  pub sound : Sound g
-  pub room : Room g s
+pub record Starts (g : Grid) (start : ℕ) : Type 0 where
   pub inside : start < claims g
 
 -- no step leads from the first n queue entries to a claim that is not marked

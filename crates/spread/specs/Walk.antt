@@ -4,12 +4,15 @@
 --     Written      what `write_back` leaves
 --     HalfWalk     entries that lead from a claim to its opposite: half of a walk that stands
 -- Assumes nothing: these are definitions.
-use Rattle.std.specs.Prelude.{ℕ, ◌+◌, ◌*◌, ◌-◌, ◌<◌, ◌≤◌, ◌≡◌, List, [], ◌∷◌, ◌++◌, length, get_or, take, drop}
+use Rattle.std.specs.Prelude.{ℕ, ◌+◌, ◌*◌, ◌-◌, ◌<◌, ◌≤◌, ◌≡◌, List, [], ◌∷◌, length, get_or}
 use Rattle.answer.specs.Answer.{Entry}
 use Rattle.answer.specs.Written.{fours, entry_at}
+use Rattle.answer.specs.declared.page.Page.{Page}
+use Rattle.answer.specs.Page.{Wrote}
 use Rattle.board.specs.Board.{opposite}
 use Rattle.board.specs.Walk.{start, Goes}
-use Rattle.grid.specs.Grid.{Grid, claims, grid_board}
+use Rattle.grid.specs.Grid.{claims, grid_board}
+use Rattle.grid.specs.Grid.{Grid}
 
 pub data Chain (from by : List ℕ) (first : ℕ) : ℕ → List Entry → Type 0 where
   here : Chain from by first first []
@@ -32,12 +35,11 @@ pub record Backs (queue from by : List ℕ) (r first target at : ℕ) (out : Lis
   pub is : get_or queue place 0 ≡ target
   pub room : at + 4 * r ≤ length out + 4
 
-pub record Written (from by : List ℕ) (r first target at : ℕ) (out next : List ℕ) (last : ℕ) : Type 0 where
+pub record Written (from by : List ℕ) (r first target : ℕ) (p q : Page) : Type 0 where
   pub entries : List Entry
   pub chain : Chain from by first target entries
   pub few : length entries < r
-  pub end : last ≡ at + 4 * length entries
-  pub bytes : next ≡ take at out ++ fours entries ++ drop last out
+  pub wrote : Wrote p (fours entries) q
 
 -- c reaches its opposite by these entries, and each is of a claim and a combination that there is
 pub record HalfWalk (g : Grid) (c : ℕ) (es : List Entry) : Type 0 where

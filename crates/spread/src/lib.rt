@@ -1,77 +1,40 @@
 // Breadth-first spread over the claims of a board, and the way back from a reached claim.
 //
-// The caller lends the board's arrays (the row that each combination shows to A and to B, and its faults) and four arrays
-// with a place for each claim: a mark, a queue, and the parent claim and the combination by which each claim was reached.
-// The definitions stand in specs/Spread and specs/Walk; the laws that callers cite in proofs/Meaning. What the arrays hold, and
-// the scan of one claim, stand in `scan`.
+// The board stands in a `Grid`, and what the spread has reached in a `Store`. The definitions stand in specs/Spread and specs/Walk;
+// the laws that callers cite in proofs/Meaning. What the store holds, and the scan of one claim, stand in `scan`.
 // Leans on `wires`, `answer`, `grid` and `scan`.
 #![tactic(auto)]
 
-ghost use Rattle.std.specs.Prelude.{◌≡◌, ◌≤◌, ◌++◌, length, drop, replicate};
+ghost use Rattle.std.specs.Prelude.{◌≡◌};
 ghost use Rattle.board.specs.Board.{opposite as opp};
-ghost use Rattle.grid.specs.Grid.{grid};
-ghost use Rattle.scan.specs.Reach.{store};
+ghost use Rattle.grid.specs.Held.{held};
 ghost use Rattle.spread.specs.Spread.{Starts, Spread};
 ghost use Rattle.spread.specs.Walk.{Backs, Written};
 
-use answer::write_entry;
-use grid::Shape;
-use scan::looks;
+use answer::page::Page;
+use grid::Grid;
+use scan::Store;
 use wires::{Claim, Combination};
 
-// Sets the first n marks to 0.
-fn clear(reached: &mut [u8], n: usize)
-    requires { n ≤ length reached.old }
-    ensures { reached.new ≡ replicate n 0 ++ drop n reached.old }
+// Marks and queues every claim to which steps lead from `start`, nearest first, with the parent of each. The queue grows while it
+// is read, so the loop counts by hand.
+pub fn spread(grid: &Grid, start: Claim, store: &mut Store)
+    requires { Starts (held grid.now) start.0 }
+    ensures { Spread (held grid.now) start.0 store.new store.new.tail }
 {
-    let mut i = 0;
-    while i < n {
-        reached[i] = 0;
-        i += 1;
-    }
-}
-
-// Marks and queues every claim to which steps lead from `start`, nearest first, with the parent of each. Returns how many
-// claims were reached.
-pub fn spread(
-    shape: Shape,
-    row_a: &[u8],
-    row_b: &[u8],
-    faults: &[u8],
-    start: Claim,
-    reached: &mut [u8],
-    queue: &mut [u16],
-    from: &mut [u16],
-    by: &mut [u16],
-) -> usize
-    requires { Starts (grid shape row_a.now row_b.now faults.now) (store reached.old queue.old from.old by.old) start.0 }
-    ensures { Spread (grid shape row_a.now row_b.now faults.now) start.0 (store reached.new queue.new from.new by.new) result }
-{
-    let n = 2 * (shape.rows_a + shape.rows_b);
-    clear(reached, n);
+    let n = 2 * (grid.shape.rows_a + grid.shape.rows_b);
+    store.reached[..n].fill(0);
     let m = start.0;
     let c = m as usize;
-    reached[c] = 1;
-    queue[0] = m;
-    let mut tail = 1;
+    store.reached[c] = 1;
+    store.queue[0] = m;
+    store.tail = 1;
     let mut head = 0;
-    while head < tail {
-        let l = queue[head];
-        tail = looks(
-            shape,
-            row_a,
-            row_b,
-            faults,
-            Claim(l),
-            reached,
-            queue,
-            from,
-            by,
-            tail,
-        );
+    while head < store.tail {
+        let l = store.queue[head];
+        store.looks(grid, Claim(l));
         head += 1;
     }
-    tail
 }
 
 // The claim that says the other value of the same row.
@@ -87,27 +50,16 @@ pub fn opposite(c: Claim) -> Claim
 }
 
 // Follows the parents from `target` back to `start`, and writes an entry of a walk for each: the opposite of the claim, and
-// the combination by which it was reached. Returns the place after the last.
-pub fn write_back(
-    r: usize,
-    queue: &[u16],
-    from: &[u16],
-    by: &[u16],
-    start: Claim,
-    target: Claim,
-    out: &mut [u8],
-    at: usize,
-) -> usize
-    requires { Backs queue.now from.now by.now r start.0 target.0 at out.old }
-    ensures { Written from.now by.now r start.0 target.0 at out.old out.new result }
+// the combination by which it was reached.
+pub fn write_back(store: &Store, start: Claim, target: Claim, page: &mut Page)
+    requires { Backs store.now.queue store.now.from store.now.by store.now.tail start.0 target.0 page.old.at page.old.bytes.now }
+    ensures { Written store.now.from store.now.by store.now.tail start.0 target.0 page.old page.new }
 {
     let s = start.0;
     let mut c = target.0;
-    let mut last = at;
     while c != s {
         let k = c as usize;
-        last = write_entry(out, last, opposite(Claim(c)), Combination(by[k]));
-        c = from[k];
+        page.write_entry(opposite(Claim(c)), Combination(store.by[k]));
+        c = store.from[k];
     }
-    last
 }

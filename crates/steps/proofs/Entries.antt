@@ -3,7 +3,7 @@ use mathlib.Core.Path.{◌≡◌, refl, sym, ap, ◌∙◌}
 use mathlib.Core.Bool.{Bool, true, false}
 use mathlib.Core.List.{List, [], ◌∷◌}
 use mathlib.Core.Logic.{◌⊎◌, inl, inr}
-use Prim.Native.Nat.{ℕ, zero, suc, ◌+◌, ◌-◌, ◌≤◌, ◌<◌}
+use Prim.Native.Nat.{ℕ, zero, suc, ◌+◌, ◌≤◌, ◌<◌}
 use native.Mathlib.Nat.{not-suc-le-zero}
 use native.Mathlib.Omega.{arith}
 use borrow.Author.Tests.{ltb-true, leb-true}
@@ -107,12 +107,9 @@ module _ {B : Type 0} (limit least : ℕ) (s : List ℕ) (at : ℕ) (k : List �
   unfolding entries
   go-suc m e n h = rw h (assoc (entries m limit (e + 1) s n) (λ es a. got (e ∷ es) a) k)
 
-  pub entries-go : (left e n : ℕ) → 0 < left → entry limit least s at ≡ got e n
-      → next (entries left limit least s at) k ≡ next (entries (left - 1) limit (e + 1) s n) (λ es a. k (e ∷ es) a)
-  entries-go zero e n l h = absurd (not-suc-le-zero l)
-  entries-go (suc m) e n l h =
-      let p : m ≡ suc m - 1 = omega arith in
-      go-suc m e n h ∙ ap (λ (j : ℕ). next (entries j limit (e + 1) s n) (λ es a. k (e ∷ es) a)) p
+  pub entries-go : (left rest e n : ℕ) → left ≡ suc rest → entry limit least s at ≡ got e n
+      → next (entries left limit least s at) k ≡ next (entries rest limit (e + 1) s n) (λ es a. k (e ∷ es) a)
+  entries-go left rest e n l h = ap (λ (j : ℕ). next (entries j limit least s at) k) l ∙ go-suc rest e n h
 
   pub entries-stop : (left : ℕ) (w : Refusal) → 0 < left → entry limit least s at ≡ refused w → next (entries left limit least s at) k ≡ refused w
   unfolding entries

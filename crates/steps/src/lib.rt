@@ -7,7 +7,7 @@
 ghost use Rattle.std.specs.Prelude.{◌≡◌};
 ghost use Rattle.steps.specs.Outcome.{code_of, answer_code_of, place_of, success, refusal_naming, refusal, rule_broken, refused_job, refused_answer};
 ghost use Rattle.steps.specs.Bytes.{byte, word, count, word_count, entry, end};
-ghost use Rattle.steps.specs.Found.{as_read, within_of, why_of};
+ghost use Rattle.steps.specs.Found.{as_read, within_of};
 
 // Why a sheet is refused, with the place. The first five are a job's, codes 1 to 5 in this order; an answer is refused by
 // its end, bytes left over, and the last three.
@@ -23,50 +23,47 @@ pub enum Refusal {
     OutOfRange(usize),
 }
 
-// Document 01's number of a refusal of a job sheet, and its place.
-pub fn code_of(w: Refusal) -> u8
-    ensures { result ≡ code_of w }
-{
-    match w {
-        Refusal::Ends(_) => 1,
-        Refusal::TooMany(_) => 2,
-        Refusal::NotRising(_) => 3,
-        Refusal::TooHigh(_) => 4,
-        Refusal::LeftOver(_) => 5,
-        Refusal::OtherKind(_) => 8,
-        Refusal::NotABit(_) => 9,
-        Refusal::OutOfRange(_) => 11,
+impl Refusal {
+    // Document 01's number of a refusal of a job sheet.
+    pub fn code(self) -> u8
+        ensures { result ≡ code_of self }
+    {
+        match self {
+            Refusal::Ends(_) => 1,
+            Refusal::TooMany(_) => 2,
+            Refusal::NotRising(_) => 3,
+            Refusal::TooHigh(_) => 4,
+            Refusal::LeftOver(_) => 5,
+            Refusal::OtherKind(_) => 8,
+            Refusal::NotABit(_) => 9,
+            Refusal::OutOfRange(_) => 11,
+        }
     }
-}
 
-// And of an answer sheet.
-pub fn answer_code_of(w: Refusal) -> u8
-    ensures { result ≡ answer_code_of w }
-{
-    match w {
-        Refusal::Ends(_) => 7,
-        Refusal::TooMany(_) => 2,
-        Refusal::NotRising(_) => 3,
-        Refusal::TooHigh(_) => 4,
-        Refusal::LeftOver(_) => 7,
-        Refusal::OtherKind(_) => 8,
-        Refusal::NotABit(_) => 9,
-        Refusal::OutOfRange(_) => 11,
+    // And of an answer sheet, where one number stands for its end and for bytes left over.
+    pub fn answer_code(self) -> u8
+        ensures { result ≡ answer_code_of self }
+    {
+        match self {
+            Refusal::Ends(_) | Refusal::LeftOver(_) => 7,
+            _ => self.code(),
+        }
     }
-}
 
-pub fn place_of(w: Refusal) -> usize
-    ensures { result ≡ place_of w }
-{
-    match w {
-        Refusal::Ends(at) => at,
-        Refusal::TooMany(at) => at,
-        Refusal::NotRising(at) => at,
-        Refusal::TooHigh(at) => at,
-        Refusal::LeftOver(at) => at,
-        Refusal::OtherKind(at) => at,
-        Refusal::NotABit(at) => at,
-        Refusal::OutOfRange(at) => at,
+    // Its place.
+    pub fn place(self) -> usize
+        ensures { result ≡ place_of self }
+    {
+        match self {
+            Refusal::Ends(at)
+            | Refusal::TooMany(at)
+            | Refusal::NotRising(at)
+            | Refusal::TooHigh(at)
+            | Refusal::LeftOver(at)
+            | Refusal::OtherKind(at)
+            | Refusal::NotABit(at)
+            | Refusal::OutOfRange(at) => at,
+        }
     }
 }
 
@@ -122,60 +119,47 @@ pub fn rule_broken(place: usize, rule: usize) -> Outcome
 pub fn refused_job(sheet: u8, w: Refusal) -> Outcome
     ensures { result ≡ refused_job sheet w }
 {
-    refused(code_of(w), sheet, place_of(w))
+    refused(w.code(), sheet, w.place())
 }
 
 // The outcome of an answer sheet that was refused.
 pub fn refused_answer(w: Refusal) -> Outcome
     ensures { result ≡ refused_answer w }
 {
-    refused(answer_code_of(w), 2, place_of(w))
+    refused(w.answer_code(), 2, w.place())
 }
 
 // What a reading step finds: a number with the next place, or the refusal.
-#[derive(Clone, Copy)]
-pub enum Read {
-    Got(u32, usize),
-    Refused(Refusal),
-}
+pub type Read = Result<(u32, usize), Refusal>;
 
 // A byte.
 pub fn read_byte(sheet: &[u8], at: usize) -> Read
     ensures { result ≡ as_read (byte sheet.now at) }
 {
-    if at < sheet.len() {
-        Read::Got(sheet[at] as u32, at + 1)
-    } else {
-        Read::Refused(Refusal::Ends(sheet.len()))
-    }
+    let Some(byte) = sheet.get(at) else {
+        return Err(Refusal::Ends(sheet.len()));
+    };
+    Ok((*byte as u32, at + 1))
 }
 
 // Two bytes, low byte first.
 pub fn read_word(sheet: &[u8], at: usize) -> Read
     ensures { result ≡ as_read (word sheet.now at) }
 {
-    let first = read_byte(sheet, at);
-    let Read::Got(low, middle) = first else {
-        return first;
-    };
-    let second = read_byte(sheet, middle);
-    let Read::Got(high, next) = second else {
-        return second;
-    };
-    Read::Got(low + 256 * high, next)
+    let (low, middle) = read_byte(sheet, at)?;
+    let (high, next) = read_byte(sheet, middle)?;
+    Ok((low + 256 * high, next))
 }
 
 // A count that was read from the place `first` on: at most `most`, or refused there.
 fn within(counted: Read, first: usize, most: u32) -> Read
     ensures { result ≡ within_of most first counted }
 {
-    let Read::Got(n, next) = counted else {
-        return counted;
-    };
+    let (n, next) = counted?;
     if n <= most {
-        Read::Got(n, next)
+        Ok((n, next))
     } else {
-        Read::Refused(Refusal::TooMany(first))
+        Err(Refusal::TooMany(first))
     }
 }
 
@@ -197,18 +181,13 @@ pub fn read_word_count(sheet: &[u8], at: usize, most: u32) -> Read
 pub fn read_entry(sheet: &[u8], at: usize, limit: u32, least: u32) -> Read
     ensures { result ≡ as_read (entry limit least sheet.now at) }
 {
-    let first = read_byte(sheet, at);
-    let Read::Got(e, next) = first else {
-        return first;
-    };
-    if e < limit {
-        if least <= e {
-            Read::Got(e, next)
-        } else {
-            Read::Refused(Refusal::NotRising(at))
-        }
+    let (e, next) = read_byte(sheet, at)?;
+    if limit <= e {
+        Err(Refusal::TooHigh(at))
+    } else if e < least {
+        Err(Refusal::NotRising(at))
     } else {
-        Read::Refused(Refusal::TooHigh(at))
+        Ok((e, next))
     }
 }
 
@@ -217,18 +196,8 @@ pub fn read_end(sheet: &[u8], at: usize) -> Read
     ensures { result ≡ as_read (end sheet.now at) }
 {
     if at < sheet.len() {
-        Read::Refused(Refusal::LeftOver(at))
+        Err(Refusal::LeftOver(at))
     } else {
-        Read::Got(0, at)
-    }
-}
-
-// The refusal that a step answered.
-pub fn why(x: Read) -> Refusal
-    ensures { result ≡ why_of x }
-{
-    match x {
-        Read::Got(_, at) => Refusal::LeftOver(at),
-        Read::Refused(w) => w,
+        Ok((0, at))
     }
 }

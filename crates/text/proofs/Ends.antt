@@ -4,6 +4,7 @@
 --     tables-ask, walk-ask                       the printing functions have what they ask
 --     tables-ends, walk_ends, refused-ends       what they print is what the call is to print
 --     texted-fits                                what is printed fits in the buffer
+--     texted-told                                what is printed is the text of the job, where there is room
 -- Assumes nothing.
 use mathlib.Core.Path.{◌≡◌, refl, sym, ap, subst, ◌∙◌}
 use mathlib.Core.List.{List, [], ◌∷◌, ◌++◌, append_assoc}
@@ -34,6 +35,8 @@ use Rattle.solver.specs.Solved.{SolvedOn, Solved, refused, no_room, solved}
 use Rattle.solver.specs.Solved.{tables as tabled, walk as walked}
 use Rattle.text.specs.Text.{longest_text, tables_text, walk_text, refused_text, Printed, Texted}
 use Rattle.text.specs.Text.{refused as told, tables as tabling, walk as walking, no_room as tight}
+use Rattle.text.specs.Told.{Told}
+use Rattle.text.specs.Told.{refused as told_refused, tables as told_tables, walk as told_walk}
 use Rattle.text.specs.Printing.{entries_from, Prints, Small, TablesAsk, tables_of, WalkAsk, walk_of}
 
 -- ---- numbers of two bytes
@@ -284,3 +287,15 @@ texted-fits (tight _ e _) = omega (arith, ap (λ (x : Outcome). x.written) e)
 texted-fits (told _ _ _ p) = printed-fits p
 texted-fits (tabling _ _ _ _ _ _ _ p) = printed-fits p
 texted-fits (walking _ _ _ _ _ _ _ p) = printed-fits p
+
+-- ---- where there is room, the bytes that are printed are the text of the job
+
+printed-front : {t entry : List ℕ} {o : Outcome} {exit : List ℕ} → Printed t entry o exit → take o.written exit ≡ t
+printed-front {t} {entry} p = rw (p.outcome, p.bytes) (take_at t (drop (length t) entry) (length t) refl)
+
+pub texted-told : {form : Form} {job entry : List ℕ} {o : Outcome} {exit : List ℕ} → longest_text ≤ length entry → Texted form job entry o exit
+    → Told form job (take o.written exit)
+texted-told large (tight few _ _) = absurd (omega arith)
+texted-told large (told w _ is p) = told_refused w is (printed-front p)
+texted-told large (tabling j xs ys _ is pair first p) = told_tables j xs ys is pair first (printed-front p)
+texted-told large (walking j es _ is walks stands few p) = told_walk j es is walks stands few (printed-front p)

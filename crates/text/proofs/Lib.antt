@@ -1,5 +1,4 @@
 pub mod Decimals
-pub mod Pieces
 pub mod Numbered
 pub mod Tables
 pub mod Lines

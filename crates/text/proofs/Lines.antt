@@ -2,7 +2,6 @@
 --     line-short                   a line has at most ten bytes
 --     Lined                        i lines are written: the whole text is what stands, and what is left from here on
 --     lined-start, lined-turn, lined-end      at the start, after a turn, and at the end
---     same-room                    the buffer is as long as at the call
 --     line-room                    there is room for the next line
 -- Assumes nothing.
 use mathlib.Core.Path.{◌≡◌, refl, sym, ap, ◌∙◌}
@@ -13,13 +12,14 @@ use native.Mathlib.Omega.{arith}
 use lib.ListN.{length, length-append}
 use lib.Seq.{sets, length-sets}
 use Rattle.answer.specs.Answer.{Entry}
+use Rattle.answer.specs.Page.{Stored}
 use Rattle.steps.proofs.Runs.{sets-append}
 use Rattle.board.specs.Places.{word_at, claim_in, combination_in}
-use Rattle.solver.proofs.Writing.{wrote}
 use Rattle.text.specs.Decimal.{decimal}
 use Rattle.text.specs.Text.{head_walk, line_of, lines, walk_text}
 use Rattle.text.specs.Printing.{entries_from, Prints, WalkAsk, walk_of}
 use Rattle.text.proofs.Decimals.{decimal-short}
+use Rattle.text.proofs.Tables.{printed}
 
 abbrev entry_of : (claim combination : ℕ) → Entry
 entry_of claim combination = record { says = claim; by = combination }
@@ -27,7 +27,7 @@ entry_of claim combination = record { says = claim; by = combination }
 pub line-short : (e : Entry) → e.says < 10000 → e.by < 10000 → length (line_of e) ≤ 10
 line-short e a b =
     let l : length (line_of e) ≡ length (decimal e.says) + suc (length (decimal e.by)) + 1 = simp length-append (omega arith) in
-    omega (arith, decimal-short 4 e.says (omega arith) a, decimal-short 4 e.by (omega arith) b)
+    omega (arith, decimal-short 4 e.says, decimal-short 4 e.by)
 
 module _ (s : List ℕ) (n : ℕ) where
   abbrev whole : List ℕ
@@ -60,10 +60,13 @@ module _ (s : List ℕ) (n : ℕ) where
   pub lined-start : (out : List ℕ) (at : ℕ) → Lined out at out at 0
   lined-start out at = record { within = omega arith; same = refl; most = omega arith; run = refl; long = refl }
 
-  module _ (out₀ : List ℕ) (ask : WalkAsk s out₀) (count : n ≡ word_at s 4) (out₁ : List ℕ) (at₁ : ℕ) (e₁ : out₁ ≡ sets out₀ 0 head_walk) (p₁ : at₁ ≡ 5)
+  module _ (out₀ : List ℕ) (ask : WalkAsk s out₀) (count : n ≡ word_at s 4) {out₁ : List ℕ} {at₁ : ℕ} (x₁ : Stored out₀ 0 head_walk out₁ at₁)
       (out : List ℕ) (at i : ℕ) (inv : Lined out₁ at₁ out at i) where
-    pub same-room : length out ≡ length out₀
-    same-room = inv.same ∙ ap length e₁ ∙ length-sets out₀ 0 head_walk
+    same-room : length out ≡ length out₀
+    same-room = inv.same ∙ ap length x₁.out_after ∙ length-sets out₀ 0 head_walk
+
+    five : at₁ ≡ 5
+    five = x₁.value
 
     module _ (more : i < n) (claim combination : ℕ) (c : claim ≡ claim_in s i) (b : combination ≡ combination_in s i) where
       small-claim : claim < 10000
@@ -84,12 +87,12 @@ module _ (s : List ℕ) (n : ℕ) where
       more_left : left i ≡ line ++ left (i + 1)
       more_left = left-more i more ∙ ap (λ (e : Entry). line_of e ++ left (i + 1)) (λ k. entry_of (sym c k) (sym b k))
 
-      pub lined-turn : (out₂ : List ℕ) (at₂ : ℕ) → out₂ ≡ sets out at line → at₂ ≡ at + length line → Lined out₁ at₁ out₂ at₂ (i + 1)
-      lined-turn out₂ at₂ e p = record {
+      pub lined-turn : {out₂ : List ℕ} {at₂ : ℕ} → Stored out at line out₂ at₂ → Lined out₁ at₁ out₂ at₂ (i + 1)
+      lined-turn x = record {
         within = omega arith;
-        same = ap length e ∙ length-sets out at line ∙ inv.same;
+        same = ap length x.out_after ∙ length-sets out at line ∙ inv.same;
         most = omega (arith, inv.most, short);
-        run = inv.run ∙ ap (sets out at) more_left ∙ sets-append out at line (left (i + 1)) ∙ rw (e, p);
+        run = inv.run ∙ ap (sets out at) more_left ∙ sets-append out at line (left (i + 1)) ∙ rw (x.out_after, x.value);
         long = omega (arith, inv.long, ap length more_left, length-append line (left (i + 1)));
       }
 
@@ -98,7 +101,6 @@ module _ (s : List ℕ) (n : ℕ) where
         let none = left-none i h in
         let long : at ≡ length whole = omega (arith, inv.long, ap length none, ap length left-zero) in
         let run : sets out₁ at₁ (left 0) ≡ out = inv.run ∙ ap (sets out at) none in
-        let start : sets out₀ 0 whole ≡ sets out₁ at₁ (left 0) = rw (left-zero, e₁, p₁) (sets-append out₀ 0 head_walk (lines (entries_from s 0 n))) in
-        let fits : length whole ≤ length out₀ = omega (arith, inv.most, inv.within, ask.most, ask.room) in
-        let all : Prints whole out₀ out at = record { long = long; bytes = wrote whole out₀ out fits (sym (start ∙ run)) } in
-        rw (← count) all
+        let start : sets out₀ 0 whole ≡ sets out₁ at₁ (left 0) = rw (left-zero, x₁.out_after, five) (sets-append out₀ 0 head_walk (lines (entries_from s 0 n))) in
+        let fits : 0 + length whole ≤ length out₀ = omega (arith, inv.most, inv.within, ask.most, ask.room) in
+        rw (← count) (printed whole fits (record { value = omega arith; out_after = sym (start ∙ run) }))

@@ -19,13 +19,13 @@ use Rattle.text.specs.Decimal.{decimal}
 use Rattle.text.specs.Text.{longest_text, refused_text}
 use Rattle.text.specs.Numbers.{first_three, numbers_text, longest_numbers, numbered}
 use Rattle.text.proofs.Decimals.{decimal-short}
-use Rattle.text.proofs.Pieces.{Stored}
+use Rattle.answer.specs.Page.{Stored}
 
 module _ (o : Outcome) (code : o.code < 256) (sheet : o.sheet < 256) (place : o.place < 2 ^ 64) where
   three-short : length (first_three o) ≤ 28
   three-short =
       let long : length (first_three o) ≡ length (decimal o.code) + (1 + length (decimal o.sheet)) + (1 + length (decimal o.place)) = simp length-append (omega arith) in
-      omega (arith, long, decimal-short 3 o.code (omega arith) (omega arith), decimal-short 3 o.sheet (omega arith) (omega arith), decimal-short 20 o.place (omega arith) (omega arith))
+      omega (arith, decimal-short 3 o.code, decimal-short 3 o.sheet, decimal-short 20 o.place)
 
   pub refused-short : length (refused_text o) ≤ longest_text
   refused-short = omega (arith, three-short, length-append (first_three o) (10 ∷ []))
@@ -33,7 +33,7 @@ module _ (o : Outcome) (code : o.code < 256) (sheet : o.sheet < 256) (place : o.
   pub numbers-short : o.written < 2 ^ 64 → o.rule < 2 ^ 64 → length (numbers_text o) ≤ longest_numbers
   numbers-short written rule =
       let long : length (numbers_text o) ≡ length (first_three o) + (1 + length (decimal o.written)) + (1 + length (decimal o.rule)) + 1 = simp length-append (omega arith) in
-      omega (arith, long, three-short, decimal-short 20 o.written (omega arith) (omega arith), decimal-short 20 o.rule (omega arith) (omega arith))
+      omega (arith, three-short, decimal-short 20 o.written, decimal-short 20 o.rule)
 
 module _ (o : Outcome) (entry : List ℕ) {r : Outcome} where
   pub numbered-no-room : length entry < longest_numbers → r ≡ refusal 6 0 0 → Ended (numbered o entry) r entry

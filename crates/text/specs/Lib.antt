@@ -1,4 +1,5 @@
 pub mod Decimal
 pub mod Text
+pub mod Told
 pub mod Numbers
 pub mod Printing

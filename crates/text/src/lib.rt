@@ -3,16 +3,18 @@
 // on the solver.
 #![tactic(auto)]
 
-ghost use Rattle.std.specs.Prelude.{◌≡◌, ◌∷◌, [], ◌+◌, ◌≤◌, length};
-ghost use Rattle.std.proofs.lemmas.List.Edits.{sets};
+ghost use Rattle.std.specs.Prelude.{◌≡◌, ◌∷◌, ◌+◌, ◌≤◌, length};
 ghost use Rattle.steps.specs.Outcome.{Ended};
+ghost use Rattle.answer.specs.Page.{Room, Wrote};
 ghost use Rattle.board.specs.Places.{word_at};
 ghost use Rattle.text.specs.Decimal.{decimal};
 ghost use Rattle.text.specs.Text.{longest_text, digits, line_of, refused_text, Texted};
 ghost use Rattle.text.specs.Numbers.{first_three, numbered};
 ghost use Rattle.text.specs.Printing.{Small, Prints, TablesAsk, tables_of, WalkAsk, walk_of};
 
-use answer::{LONGEST, write_rows};
+use answer::LONGEST;
+use answer::page::Page;
+use itoa::Buffer;
 use sheet::Form;
 use steps::{Outcome, refused, succeeded};
 
@@ -22,73 +24,61 @@ pub const LONGEST_TEXT: usize = 20465;
 // The length of the longest line of an outcome's numbers.
 pub const LONGEST_NUMBERS: usize = 71;
 
-// Writes a number in decimal. Each writer answers the place after what it wrote; the rest of the buffer stays.
-fn write_decimal(out: &mut [u8], at: usize, n: usize) -> usize
-    requires { at + length (decimal n) ≤ length out.old }
-    ensures value { result ≡ at + length (decimal n) }
-    ensures out_after { out.new ≡ sets out.old at (decimal n) }
-{
-    if n < 10 {
-        out[at] = (48 + n) as u8;
-        return at + 1;
-    }
-    let next = write_decimal(out, at, n / 10);
-    out[next] = (48 + n % 10) as u8;
-    next + 1
-}
-
-// Writes one byte.
-fn write_byte(out: &mut [u8], at: usize, b: u8) -> usize
-    requires { at + 1 ≤ length out.old }
-    ensures value { result ≡ at + 1 }
-    ensures out_after { out.new ≡ sets out.old at (b ∷ []) }
-{
-    out[at] = b;
-    at + 1
-}
-
-// Writes a space and a number.
-fn write_after(out: &mut [u8], at: usize, n: usize) -> usize
-    requires { at + length (32 ∷ decimal n) ≤ length out.old }
-    ensures value { result ≡ at + length (32 ∷ decimal n) }
-    ensures out_after { out.new ≡ sets out.old at (32 ∷ decimal n) }
-{
-    let after_space = write_byte(out, at, 32);
-    write_decimal(out, after_space, n)
-}
-
-// Writes the line of a walk's entry: claim, a space, combination, a line feed.
-fn write_line(out: &mut [u8], at: usize, claim: usize, combination: usize) -> usize
-    requires { at + length (line_of (record { says = claim; by = combination })) ≤ length out.old }
-    ensures value { result ≡ at + length (line_of (record { says = claim; by = combination })) }
-    ensures out_after { out.new ≡ sets out.old at (line_of (record { says = claim; by = combination })) }
-{
-    let after_claim = write_decimal(out, at, claim);
-    let after_both = write_after(out, after_claim, combination);
-    write_byte(out, after_both, 10)
-}
-
 // Two bytes of a sheet, low byte first.
 fn word_at(sheet: &[u8], at: usize) -> usize
     requires { at + 2 ≤ length sheet.now }
     ensures { result ≡ word_at sheet.now at }
 {
-    sheet[at] as usize + 256 * (sheet[at + 1] as usize)
+    usize::from(u16::from_le_bytes([sheet[at], sheet[at + 1]]))
+}
+
+// Writes a number in decimal. Not by `write!`: what is promised of it leaves open that it fails where there is room.
+fn write_decimal(page: &mut Page, n: usize)
+    requires { Room page.old (decimal n) }
+    ensures { Wrote page.old (decimal n) page.new }
+{
+    let mut digits = Buffer::new();
+    page.write(digits.format(n).as_bytes());
+}
+
+// Writes a space and a number.
+fn write_after(page: &mut Page, n: usize)
+    requires { Room page.old (32 ∷ decimal n) }
+    ensures { Wrote page.old (32 ∷ decimal n) page.new }
+{
+    page.write(b" ");
+    write_decimal(page, n);
+}
+
+// Writes the line of a walk's entry: claim, a space, combination, a line feed.
+fn write_line(page: &mut Page, claim: usize, combination: usize)
+    requires { Room page.old (line_of (record { says = claim; by = combination })) }
+    ensures { Wrote page.old (line_of (record { says = claim; by = combination })) page.new }
+{
+    write_decimal(page, claim);
+    write_after(page, combination);
+    page.write(b"\n");
 }
 
 // Writes a digit for each row.
-fn write_digits(out: &mut [u8], at: usize, rows: &[u8]) -> usize
-    requires rows_in_bounds { at + length rows.now ≤ length out.old }
+fn write_digits(page: &mut Page, rows: &[u8])
+    requires room { Room page.old (digits rows.now) }
     requires small { Small rows.now }
-    ensures value { result ≡ at + length rows.now }
-    ensures out_after { out.new ≡ sets out.old at (digits rows.now) }
+    ensures { Wrote page.old (digits rows.now) page.new }
 {
-    let mut i: usize = 0;
-    while i < rows.len() {
-        out[at + i] = rows[i] + 48;
-        i += 1;
+    for row in rows {
+        page.write_byte(b'0' + *row);
     }
-    at + i
+}
+
+// Writes the first three numbers of an outcome: code, sheet and place, one space between.
+fn write_first_three(page: &mut Page, o: Outcome)
+    requires { Room page.old (first_three o) }
+    ensures { Wrote page.old (first_three o) page.new }
+{
+    write_decimal(page, o.code as usize);
+    write_after(page, o.sheet as usize);
+    write_after(page, o.place);
 }
 
 // Prints the tables of an answer sheet.
@@ -101,11 +91,13 @@ fn print_tables(sheet: &[u8], out: &mut [u8]) -> usize
     let first = 4 + rows_a;
     let last = first + rows_b;
     let end_a = 2 + rows_a;
-    let at_a = write_rows(out, 0, b"tables\nA ");
-    let after_a = write_digits(out, at_a, &sheet[2..end_a]);
-    let at_b = write_rows(out, after_a, b"\nB ");
-    let after_b = write_digits(out, at_b, &sheet[first..last]);
-    write_byte(out, after_b, 10)
+    let mut page = Page { bytes: out, at: 0 };
+    page.write(b"tables\nA ");
+    write_digits(&mut page, &sheet[2..end_a]);
+    page.write(b"\nB ");
+    write_digits(&mut page, &sheet[first..last]);
+    page.write(b"\n");
+    page.at
 }
 
 // Prints the walk of an answer sheet.
@@ -113,30 +105,14 @@ fn print_walk(sheet: &[u8], out: &mut [u8]) -> usize
     requires { WalkAsk sheet.now out.old }
     ensures { Prints (walk_of sheet.now) out.old out.new result }
 {
-    let count = word_at(sheet, 4);
-    let mut at = write_rows(out, 0, b"walk\n");
-    let mut i: usize = 0;
-    while i < count {
-        at = write_line(
-            out,
-            at,
-            word_at(sheet, 6 + 4 * i),
-            word_at(sheet, 8 + 4 * i),
-        );
-        i += 1;
+    let mut page = Page { bytes: out, at: 0 };
+    page.write(b"walk\n");
+    for i in 0..word_at(sheet, 4) {
+        let claim = word_at(sheet, 6 + 4 * i);
+        let combination = word_at(sheet, 8 + 4 * i);
+        write_line(&mut page, claim, combination);
     }
-    at
-}
-
-// Writes the first three numbers of an outcome: code, sheet and place, one space between.
-fn write_first_three(o: Outcome, out: &mut [u8], at: usize) -> usize
-    requires { at + length (first_three o) ≤ length out.old }
-    ensures value { result ≡ at + length (first_three o) }
-    ensures out_after { out.new ≡ sets out.old at (first_three o) }
-{
-    let after_code = write_decimal(out, at, o.code as usize);
-    let after_sheet = write_after(out, after_code, o.sheet as usize);
-    write_after(out, after_sheet, o.place)
+    page.at
 }
 
 // Prints a refusal.
@@ -144,9 +120,11 @@ fn print_refused(o: Outcome, out: &mut [u8]) -> usize
     requires { longest_text ≤ length out.old }
     ensures { Prints (refused_text o) out.old out.new result }
 {
-    let at_code = write_rows(out, 0, b"refused ");
-    let after_place = write_first_three(o, out, at_code);
-    write_byte(out, after_place, 10)
+    let mut page = Page { bytes: out, at: 0 };
+    page.write(b"refused ");
+    write_first_three(&mut page, o);
+    page.write(b"\n");
+    page.at
 }
 
 // What the bench program of a form prints for a job sheet, for every string of bytes and every lent buffer.
@@ -158,16 +136,12 @@ pub fn text(form: Form, job: &[u8], out: &mut [u8]) -> Outcome
     }
     let mut answer = [0u8; LONGEST];
     let o = solver::solve(form, job, &mut answer);
-    let code = o.code;
-    if code == 20 {
-        let written = print_tables(&answer, out);
-        return succeeded(0, written);
-    }
-    if code == 21 {
-        let written = print_walk(&answer, out);
-        return succeeded(0, written);
-    }
-    let written = print_refused(o, out);
+    // The code is the paper's number, which C is handed too: 20 for tables, 21 for a walk.
+    let written = match o.code {
+        20 => print_tables(&answer, out),
+        21 => print_walk(&answer, out),
+        _ => print_refused(o, out),
+    };
     succeeded(0, written)
 }
 
@@ -178,8 +152,10 @@ pub fn numbers(o: Outcome, out: &mut [u8]) -> Outcome
     if out.len() < LONGEST_NUMBERS {
         return refused(6, 0, 0);
     }
-    let after_place = write_first_three(o, out, 0);
-    let after_written = write_after(out, after_place, o.written);
-    let after_rule = write_after(out, after_written, o.rule);
-    succeeded(0, write_byte(out, after_rule, 10))
+    let mut page = Page { bytes: out, at: 0 };
+    write_first_three(&mut page, o);
+    write_after(&mut page, o.written);
+    write_after(&mut page, o.rule);
+    page.write(b"\n");
+    succeeded(0, page.at)
 }

@@ -8,7 +8,8 @@ use Rattle.board.specs.Board.{Board, Shows, rows, row}
 use Rattle.board.specs.Walk.{Step}
 use Rattle.theory.specs.Solve.{Explored}
 use Rattle.theory.specs.Trail.{Has, Trail, Whole}
-use Rattle.board.proofs.Finite.{dec-both, dec-not, dec-below, put, test, test-yes, yes-test}
+use mathlib.Core.Logic.Dec.{and as dec_and, not as dec_not}
+use Rattle.board.proofs.Finite.{dec-below, put, test, test-yes, yes-test}
 use Rattle.board.proofs.Steps.{dec-step, step-to, step-combination}
 use Rattle.theory.proofs.Trail.{trail-puts, trail-fits, trail-explored}
 
@@ -24,7 +25,7 @@ module _ (B : Board) where
   escape? n at =
       dec-below (λ i. (a : ℕ) × (a < B.combinations) × ((M : ℕ) × (M < 2 * rows B) × (Step B (at i) M a × (¬ Has n at M))))
       (λ i. dec-below (λ a. (M : ℕ) × (M < 2 * rows B) × (Step B (at i) M a × (¬ Has n at M)))
-      (λ a. dec-below (λ M. Step B (at i) M a × (¬ Has n at M)) (λ M. dec-both (dec-step B (at i) M a) (dec-not (has? n at M))) (2 * rows B))
+      (λ a. dec-below (λ M. Step B (at i) M a × (¬ Has n at M)) (λ M. dec_and (dec-step B (at i) M a) (dec_not (has? n at M))) (2 * rows B))
       B.combinations)
       n
 

@@ -8,11 +8,14 @@ use Prim.Native.Nat.{ℕ, suc, ◌-◌, ◌<◌, ◌≤◌}
 use native.Mathlib.Decide.{dec_lt}
 use native.Mathlib.Omega.{arith}
 use lib.ListN.{replicate, length-replicate, get_or-replicate}
+use Rattle.std.specs.Prelude.{map}
+use Rattle.std.specs.List.{range_with_len}
+use Rattle.std.proofs.lemmas.List.FromFn.{length-map-range_with_len, get_or-map-range_with_len}
 use Rattle.board.specs.Board.{Board, Shows, rows, row, value, claim, opposite}
 use Rattle.board.specs.Tables.{held, True}
 use Rattle.board.specs.Walk.{Carries, Reaches}
 use Rattle.theory.specs.Solve.{Good, Spread, Merged, Partial, Cause, Settling}
-use Rattle.board.proofs.Finite.{below_suc, tab, length-tab, get_or-tab}
+use Rattle.board.proofs.Finite.{below_suc}
 use Rattle.board.proofs.Claims.{claim-true, value-bit, row-claim, bit-cases, row-opposite, value-opposite, claim-row, opposite-zero, claim-cases}
 use Rattle.board.proofs.Steps.{step_from, step-to}
 use Rattle.board.proofs.Walks.{reach-along, opposite-true}
@@ -33,7 +36,7 @@ covers In r = go (In (claim r 0)) (In (claim r 1)) refl refl
 
 -- the state with what a spread settles
 pub merge : Board → (ℕ → Bool) → List ℕ → List ℕ
-merge B In S = tab (rows B) (λ r. cond (In (claim r 0)) 0 (cond (In (claim r 1)) 1 (held S r)))
+merge B In S = map (λ r. cond (In (claim r 0)) 0 (cond (In (claim r 1)) 1 (held S r))) (range_with_len 0 (rows B))
 
 module _ (B : Board) where
   pub held-blank : (r : ℕ) → r < rows B → held (replicate (rows B) 2) r ≡ 2
@@ -41,11 +44,11 @@ module _ (B : Board) where
 
   pub held-merge : (In : ℕ → Bool) (S : List ℕ) (r : ℕ) → r < rows B → held (merge B In S) r ≡ cond (In (claim r 0)) 0 (cond (In (claim r 1)) 1 (held S r))
   unfolding merge
-  held-merge In S r h = get_or-tab (rows B) (λ i. cond (In (claim i 0)) 0 (cond (In (claim i 1)) 1 (held S i))) r 0 h
+  held-merge In S r h = get_or-map-range_with_len (λ i. cond (In (claim i 0)) 0 (cond (In (claim i 1)) 1 (held S i))) 0 (rows B) r r 0 h (omega arith)
 
   pub merge-merged : (In : ℕ → Bool) (S : List ℕ) → Good In → Merged B In S (merge B In S)
   unfolding merge
-  merge-merged In S good = record { long = length-tab (rows B) _; taken = taken; kept = kept }
+  merge-merged In S good = record { long = length-map-range_with_len _ 0 (rows B); taken = taken; kept = kept }
     where
       kept : (r : ℕ) → r < rows B → In (claim r 0) ≡ false → In (claim r 1) ≡ false → held (merge B In S) r ≡ held S r
       kept r h n m = held-merge In S r h ∙ rw (n, m)

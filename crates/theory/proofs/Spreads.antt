@@ -7,7 +7,8 @@ use Prim.Native.Nat.{ℕ, ◌<◌}
 use Rattle.board.specs.Board.{Board, Shows, rows, row, claim, opposite}
 use Rattle.board.specs.Walk.{Reaches}
 use Rattle.theory.specs.Solve.{Good, Spread}
-use Rattle.board.proofs.Finite.{dec-both, dec-below}
+use mathlib.Core.Logic.Dec.{and as dec_and}
+use Rattle.board.proofs.Finite.{dec-below}
 use Rattle.board.proofs.Claims.{opposite-zero, both-claims}
 use Rattle.board.proofs.Steps.{step-to}
 use Rattle.board.proofs.Walks.{reach-along}
@@ -37,7 +38,7 @@ module _ (B : Board) where
 
   -- a spread has a claim together with its opposite, or is good
   pub good-or-clash : Shows B → {c : ℕ} {In : ℕ → Bool} → Spread B c In → row c < rows B → Good In ⊎ Reaches B c (opposite c)
-  good-or-clash ok {c} {In} s h = go (dec-below (λ r. (In (claim r 0) ≡ true) × (In (claim r 1) ≡ true)) (λ r. dec-both (Bool-discrete (In (claim r 0)) true) (Bool-discrete (In (claim r 1)) true)) (rows B))
+  good-or-clash ok {c} {In} s h = go (dec-below (λ r. (In (claim r 0) ≡ true) × (In (claim r 1) ≡ true)) (λ r. dec_and (Bool-discrete (In (claim r 0)) true) (Bool-discrete (In (claim r 1)) true)) (rows B))
     where
       go : Dec ((r : ℕ) × (r < rows B) × ((In (claim r 0) ≡ true) × (In (claim r 1) ≡ true))) → Good In ⊎ Reaches B c (opposite c)
       go (yes t) = inr (spread-clash s (claim t.0 0) t.2.0 (rw (opposite-zero t.0) t.2.1))

@@ -8,10 +8,13 @@ use Prim.Native.Nat.{ℕ, ◌+◌, ◌-◌, ◌<◌}
 use native.Mathlib.Decide.{dec_lt}
 use native.Mathlib.Omega.{arith}
 use lib.Seq.{ext_get_or}
+use Rattle.std.specs.Prelude.{map}
+use Rattle.std.specs.List.{range_with_len}
+use Rattle.std.proofs.lemmas.List.FromFn.{length-map-range_with_len, get_or-map-range_with_len}
 use Rattle.board.specs.Board.{Board, Shows, rows, at_b}
 use Rattle.board.specs.Tables.{held, Tables, Fits, Pair}
 use Rattle.theory.specs.Widen.{AsksNoMore, Widened}
-use Rattle.board.proofs.Finite.{tab, length-tab, get_or-tab, choose, choose_yes, choose_no}
+use Rattle.board.proofs.Finite.{choose, choose_yes, choose_no}
 
 module _ (P Q : Board) (narrow_a narrow_b : ℕ → ℕ) where
   -- a row of the board is a row of A, or a row of B behind those
@@ -28,22 +31,22 @@ module _ (P Q : Board) (narrow_a narrow_b : ℕ → ℕ) where
 
   -- there is one
   pub widen : List ℕ → List ℕ
-  widen T = tab (rows Q) (λ r. choose (dec_lt r Q.rows_a) (held T (narrow_a r)) (held T (P.rows_a + narrow_b (r - Q.rows_a))))
+  widen T = map (λ r. choose (dec_lt r Q.rows_a) (held T (narrow_a r)) (held T (P.rows_a + narrow_b (r - Q.rows_a)))) (range_with_len 0 (rows Q))
 
   pub widen-widened : (T : List ℕ) → Widened P Q narrow_a narrow_b T (widen T)
   unfolding widen
-  widen-widened T = record { long = length-tab (rows Q) f; of_a = of_a; of_b = of_b }
+  widen-widened T = record { long = length-map-range_with_len f 0 (rows Q); of_a = of_a; of_b = of_b }
     where
       f : ℕ → ℕ
       f r = choose (dec_lt r Q.rows_a) (held T (narrow_a r)) (held T (P.rows_a + narrow_b (r - Q.rows_a)))
 
       of_a : (r : ℕ) → r < Q.rows_a → held (widen T) r ≡ held T (narrow_a r)
-      of_a r h = get_or-tab (rows Q) f r 0 (omega arith) ∙ choose_yes (dec_lt r Q.rows_a) (held T (narrow_a r)) (held T (P.rows_a + narrow_b (r - Q.rows_a))) h
+      of_a r h = get_or-map-range_with_len f 0 (rows Q) r r 0 (omega arith) (omega arith) ∙ choose_yes (dec_lt r Q.rows_a) (held T (narrow_a r)) (held T (P.rows_a + narrow_b (r - Q.rows_a))) h
 
       of_b : (r : ℕ) → r < Q.rows_b → held (widen T) (Q.rows_a + r) ≡ held T (P.rows_a + narrow_b r)
       of_b r h =
           let e : Q.rows_a + r - Q.rows_a ≡ r = omega arith in
-          get_or-tab (rows Q) f (Q.rows_a + r) 0 (omega arith)
+          get_or-map-range_with_len f 0 (rows Q) (Q.rows_a + r) (Q.rows_a + r) 0 (omega arith) (omega arith)
           ∙ choose_no (dec_lt (Q.rows_a + r) Q.rows_a) (held T (narrow_a (Q.rows_a + r))) (held T (P.rows_a + narrow_b (Q.rows_a + r - Q.rows_a))) (omega arith)
           ∙ rw e
 

@@ -6,7 +6,7 @@
 --     ends-asks, ends-room, ends-written    tables that fit: Q asks more, no room, and the widened sheet
 -- Assumes nothing.
 use mathlib.Core.Path.{◌≡◌, refl, sym, ap, ap₂, ◌∙◌}
-use mathlib.Core.Bool.{true, false, and-eq-true_iff}
+use mathlib.Core.Bool.{true, false}
 use mathlib.Core.List.{List, ◌++◌}
 use Prim.Native.Nat.{ℕ, ◌^◌, ◌<◌, ◌≤◌}
 use native.Mathlib.Omega.{arith}
@@ -35,9 +35,9 @@ use Rattle.board.specs.Places.{TablesIn}
 use Rattle.board.proofs.Accepting.{Taken}
 use Rattle.board.proofs.Judging.{tables-in}
 use Rattle.board.proofs.Codes.{tables-not, walk-not}
-use Rattle.asking.specs.Asks.{same_pins, asksb}
+use Rattle.asking.specs.Asks.{asksb}
 use Rattle.asking.specs.Taking.{TakenAs}
-use Rattle.asking.proofs.Within.{pins-length}
+use Rattle.asking.proofs.Asking.{asks-iff}
 use Rattle.widener.specs.Table.{narrow_row, widen_table, widen_sheet}
 use Rattle.sheet.specs.JobFound.{job_head}
 use Rattle.widener.specs.Writing.{Wide, Widely, sheet_from}
@@ -93,8 +93,7 @@ module _ (P Q : Job) (l : List ℕ) where
 
 -- equal pins are equally many
 asks-count : (P Q : Job) → asksb P Q ≡ true → length P.pins ≡ length Q.pins
-unfolding asksb
-asks-count P Q e = pins-length P.pins Q.pins ((and-eq-true_iff (same_pins P.pins Q.pins) _).0 e).0
+asks-count P Q e = ap length ((asks-iff P Q).0 e).pins
 
 -- the rows stand in the sheet that was read, so what is written from there is the widened sheet
 sheet-same : (n : ℕ) (P Q : Job) (cs : ℕ) (s xs ys : List ℕ) → read_answer (2 ^ ones P.sees_a) (2 ^ ones P.sees_b) cs s ≡ answered (tables xs ys)

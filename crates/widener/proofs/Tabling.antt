@@ -12,13 +12,17 @@ use Prim.Native.Nat.{ℕ, zero, suc, ◌+◌, ◌-◌, ◌^◌, ◌<◌, ◌≤�
 use native.Mathlib.Nat.{add-zero, sub-zero, not-suc-le-zero}
 use native.Mathlib.Omega.{arith}
 use lib.Count.{ones}
-use lib.ListN.{length, get_or, set, length-set}
+use lib.ListN.{length, get_or, set}
 use lib.Pow.{pow_mono}
 use lib.Seq.{sets}
 use Rattle.wires.specs.Wires.{shown, placed}
 use Rattle.answer.specs.Written.{two, table}
 use Rattle.steps.proofs.Runs.{joined}
+use Rattle.answer.specs.declared.page.Page.{Page}
+use Rattle.answer.specs.Page.{Wrote}
+use Rattle.answer.proofs.Pieces.{same_long}
 use Rattle.widener.specs.Table.{tabled, narrow_row}
+use Rattle.widener.specs.Writing.{WidenedOn}
 
 pub tabled-length : (f : ℕ → ℕ) (i k : ℕ) → length (tabled f i k) ≡ k
 unfolding tabled
@@ -76,38 +80,40 @@ few-rows seen l = pow_mono {j = 8} l
 abbrev pub row_from : (n few more : ℕ) (s : List ℕ) (first k : ℕ) → ℕ
 row_from n few more s first k = get_or s (first + narrow_row n few more k) 0
 
--- i of the rows are stored in `out`, which was `out₀`, from the place `start` on
-pub record Storing (few more : ℕ) (s : List ℕ) (first : ℕ) (out₀ : List ℕ) (rows start : ℕ) (out : List ℕ) (i : ℕ) : Type 0 where
-  pub most : i ≤ rows
-  pub long : length out ≡ length out₀
+-- i of the rows are written on the page q, which was p after the count of them
+pub record Storing (few more : ℕ) (s : List ℕ) (first : ℕ) (p : Page) (rows : ℕ) (q : Page) (i : ℕ) : Type 0 where
+  pub same : q.bytes.ghost_name ≡ p.bytes.ghost_name
+  pub long : length q.bytes.now ≡ length p.bytes.now
+  pub at : q.at ≡ p.at + i
   pub left : (n : ℕ) → few < 2 ^ n → more < 2 ^ n
-      → sets out₀ start (tabled (row_from n few more s first) 0 rows) ≡ sets out (start + i) (tabled (row_from n few more s first) i (rows - i))
+      → sets p.bytes.now p.at (tabled (row_from n few more s first) 0 rows) ≡ sets q.bytes.now (p.at + i) (tabled (row_from n few more s first) i (rows - i))
 
-module _ (few more : ℕ) (s : List ℕ) (first : ℕ) (out₀ : List ℕ) (rows start : ℕ) where
-  pub storing-none : Storing few more s first out₀ rows start out₀ 0
-  storing-none = record {
-    most = omega arith;
-    long = refl;
-    left = λ n lf lm. simp (add-zero, sub-zero);
-  }
+module _ (few more : ℕ) (s : List ℕ) (first : ℕ) (p : Page) (rows : ℕ) where
+  pub storing-none : Storing few more s first p rows p 0
+  storing-none = record { same = refl; long = refl; at = omega arith; left = λ n lf lm. simp (add-zero, sub-zero) }
 
   -- a row was placed in the combination a, which shows the row r
-  pub storing-turn : (out : List ℕ) (i a r : ℕ) → Storing few more s first out₀ rows start out i → i < rows
+  pub storing-turn : (q t : Page) (i a r : ℕ) → Storing few more s first p rows q i → i < rows
       → ((n : ℕ) → more < 2 ^ n → a ≡ placed n more i) → ((n : ℕ) → few < 2 ^ n → r ≡ shown n few a)
-      → Storing few more s first out₀ rows start (set out (start + i) (get_or s (first + r) 0)) (i + 1)
-  storing-turn out i a r inv l ea er = record {
-    most = omega arith;
-    long = simp length-set inv.long;
+      → Wrote q (get_or s (first + r) 0 ∷ []) t → Storing few more s first p rows t (i + 1)
+  storing-turn q t i a r inv l ea er w = record {
+    same = w.same ∙ inv.same;
+    long = same_long w ∙ inv.long;
+    at = omega (arith, w.stored.value, inv.at);
     left = λ n lf lm. inv.left n lf lm
-        ∙ tabled-turn (row_from n few more s first) out start i rows (get_or s (first + r) 0) l
-        (ap (λ (m : ℕ). get_or s (first + m) 0) (er n lf ∙ ap (shown n few) (ea n lm)));
+        ∙ tabled-turn (row_from n few more s first) q.bytes.now p.at i rows (get_or s (first + r) 0) l
+        (ap (λ (m : ℕ). get_or s (first + m) 0) (er n lf ∙ ap (shown n few) (ea n lm)))
+        ∙ ap (λ (b : List ℕ). sets b (p.at + (i + 1)) (tabled (row_from n few more s first) (i + 1) (rows - (i + 1))))
+        (ap (λ (k : ℕ). set q.bytes.now k (get_or s (first + r) 0)) (sym inv.at) ∙ sym w.stored.out_after);
   }
 
-  -- every row is stored, after the count of them
-  pub storing-all : (entry out : List ℕ) (at i : ℕ) → Storing few more s first out₀ rows start out i → rows ≤ i → rows ≡ 2 ^ ones more
-      → out₀ ≡ sets entry at (two rows) → start ≡ at + 2 → (n : ℕ) → few < 2 ^ n → more < 2 ^ n
-      → out ≡ sets entry at (table (tabled (row_from n few more s first) 0 (2 ^ ones more)))
-  storing-all entry out at i inv l count e p n lf lm =
-      rw (← count)
-      (table-stored entry out₀ out (tabled (row_from n few more s first) 0 rows) at start rows (tabled-length (row_from n few more s first) 0 rows) e p
-      (sym (inv.left n lf lm ∙ tabled-done (row_from n few more s first) out (start + i) i rows l)))
+  -- every row is written, after the count of them
+  pub storing-all : (o q : Page) (i : ℕ) → Storing few more s first p rows q i → rows ≤ i → i ≤ rows → rows ≡ 2 ^ ones more → Wrote o (two rows) p → WidenedOn few more s first o q
+  storing-all o q i inv l le count w = record {
+    same = inv.same ∙ w.same;
+    long = inv.long ∙ same_long w;
+    at = omega (arith, inv.at, w.stored.value);
+    rows = λ n lf lm. rw (← count)
+        (table-stored o.bytes.now p.bytes.now q.bytes.now (tabled (row_from n few more s first) 0 rows) o.at p.at rows (tabled-length (row_from n few more s first) 0 rows) w.stored.out_after w.stored.value
+        (sym (inv.left n lf lm ∙ tabled-done (row_from n few more s first) q.bytes.now (p.at + i) i rows l)));
+  }

@@ -10,6 +10,7 @@ use lib.Count.{ones}
 use lib.ListN.{length, drop, length-append}
 use lib.Seq.{sets}
 use Rattle.sheet.specs.declared.JobHead.{JobHead}
+use Rattle.answer.specs.declared.page.Page.{Page}
 use Rattle.answer.specs.Written.{two, table, tables_sheet}
 use Rattle.steps.proofs.Runs.{joined}
 use Rattle.answer.proofs.Sheets.{tables-length}
@@ -24,22 +25,22 @@ module _ (hp hq : JobHead) (s l : List ℕ) (w : Wide hp hq s l) where
   abbrev rows_b : ℕ
   rows_b = 2 ^ ones hq.sees_b
 
-  pub first-asks : Widens hp.sees_a hq.sees_a s 2 l 0
-  first-asks = record {
+  pub first-asks : (p : Page) → p.bytes.now ≡ l → p.at ≡ 0 → Widens hp.sees_a hq.sees_a s 2 p
+  first-asks p is z = record {
     few_seen = w.sees_a;
     more_seen = w.wide_a;
     there = omega (arith, w.tables.long);
-    room = omega (arith, few-rows hq.sees_a w.wide_a, w.room);
+    room = omega (arith, few-rows hq.sees_a w.wide_a, w.room, ap length is);
   }
 
   -- the first table was written, and what comes next stands at m₁
   module _ (l₁ : List ℕ) (m₁ ra : ℕ) (long₁ : length l₁ ≡ length l) (p₁ : m₁ ≡ 0 + 2 + rows_a) (is-ra : ra ≡ 2 ^ ones hp.sees_a) where
-    pub second-asks : Widens hp.sees_b hq.sees_b s (4 + ra) l₁ m₁
-    second-asks = record {
+    pub second-asks : (p : Page) → p.bytes.now ≡ l₁ → p.at ≡ m₁ → Widens hp.sees_b hq.sees_b s (4 + ra) p
+    second-asks p is z = record {
       few_seen = w.sees_b;
       more_seen = w.wide_b;
       there = omega (arith, w.tables.long);
-      room = omega (arith, few-rows hq.sees_a w.wide_a, few-rows hq.sees_b w.wide_b, w.room);
+      room = omega (arith, few-rows hq.sees_a w.wide_a, few-rows hq.sees_b w.wide_b, w.room, ap length is);
     }
 
     module _ (l₂ : List ℕ) (m₂ : ℕ) (long₂ : length l₂ ≡ length l₁) (p₂ : m₂ ≡ m₁ + 2 + rows_b) where

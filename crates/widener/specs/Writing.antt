@@ -1,21 +1,23 @@
 -- What the widener's parts ask and leave: tables that are written piece by piece.
---     Widens        what `widen_table` asks
+--     Widens, WidenedOn      what `widen_table` asks and leaves
 --     Wide, Widely  what `write_wide` asks and leaves
 -- Assumes nothing: these are definitions.
 use Rattle.std.specs.Prelude.{◌≡◌, List, ◌++◌, ℕ, ◌+◌, ◌^◌, ◌<◌, ◌≤◌, length, get_or, drop}
 use Rattle.std.specs.Int.Count.{ones}
+use Rattle.std.proofs.lemmas.List.Edits.{sets}
 use Rattle.sheet.specs.declared.JobHead.{JobHead}
 use Rattle.answer.specs.AnswerSheet.{longest}
-use Rattle.answer.specs.Written.{tables_sheet}
+use Rattle.answer.specs.declared.page.Page.{Page}
+use Rattle.answer.specs.Written.{table, tables_sheet}
 use Rattle.board.specs.Places.{TablesIn}
 use Rattle.widener.specs.Table.{narrow_row, tabled}
 
 -- the table of a cell that sees the wires of `few` stands in s from the place `first` on, and there is room for that of a cell that sees those of `more`
-pub record Widens (few more : ℕ) (s : List ℕ) (first : ℕ) (out : List ℕ) (at : ℕ) : Type 0 where
+pub record Widens (few more : ℕ) (s : List ℕ) (first : ℕ) (p : Page) : Type 0 where
   pub few_seen : ones few ≤ 8
   pub more_seen : ones more ≤ 8
   pub there : first + 2 ^ ones few ≤ length s
-  pub room : at + 2 + 2 ^ ones more ≤ length out
+  pub room : p.at + 2 + 2 ^ ones more ≤ length p.bytes.now
 
 pub record Wide (hp hq : JobHead) (s out : List ℕ) : Type 0 where
   pub sees_a : ones hp.sees_a ≤ 8
@@ -28,6 +30,13 @@ pub record Wide (hp hq : JobHead) (s out : List ℕ) : Type 0 where
 -- the rows of a widened table, from the bytes at a place of a sheet
 abbrev pub rows_from : (n few more : ℕ) (s : List ℕ) (first : ℕ) → List ℕ
 rows_from n few more s first = tabled (λ i. get_or s (first + narrow_row n few more i) 0) 0 (2 ^ ones more)
+
+-- the widened table stands on the page where it went on, at every number of wires that holds both masks
+pub record WidenedOn (few more : ℕ) (s : List ℕ) (first : ℕ) (p q : Page) : Type 0 where
+  pub same : q.bytes.ghost_name ≡ p.bytes.ghost_name
+  pub long : length q.bytes.now ≡ length p.bytes.now
+  pub at : q.at ≡ p.at + 2 + 2 ^ ones more
+  pub rows : (n : ℕ) → few < 2 ^ n → more < 2 ^ n → q.bytes.now ≡ sets p.bytes.now p.at (table (rows_from n few more s first))
 
 abbrev pub sheet_from : (n : ℕ) (hp hq : JobHead) (s : List ℕ) → List ℕ
 sheet_from n hp hq s =

@@ -1,15 +1,13 @@
 -- Sets as masks: one contains another, and whether some set of a list is contained.
 --     or_cases, or_left, or_right             a test of two, of which one is enough
 --     same_test                               two tests that are true together are the same
---     from-here, none_left                    the first entries of a list, from a place on
---     some_turn, some-found, some_end         the sets that a set may contain, from a place on
 --     contains-iff                            a set contains another, by the test
 --     some_to, some-from                      some set of a list is contained, by the test
 --     wire-value, same_true                   a term of wires is true whatever the cells have
 --     excuse-within                           an excuse holds where the set of the true terms contains it
 --     empty-excuses, both-never               the empty excuse always holds, and one with a term and its negation never
 -- Assumes nothing.
-use Rattle.std.proofs.Common.{◌≡◌, ℕ, zero, suc, ◌+◌, ◌*◌, ◌/◌, ◌%◌, ◌^◌, ◌<◌, ◌≤◌, Bool, true, false, ◌||◌, ◌⊎◌, ◌↔◌, List, [], ◌∷◌, length, get_or, take, drop, sym, refl, ap, ◌∙◌, inl, inr, ⊎_elim, add-one, arith, drop_of_length-le, length-take-le, drop-cons, get_or-take, lt-ltb, eq-eqb, eqb-true}
+use Rattle.std.proofs.Common.{◌≡◌, ℕ, zero, suc, ◌+◌, ◌*◌, ◌/◌, ◌%◌, ◌^◌, ◌<◌, Bool, true, false, ◌||◌, ◌⊎◌, ◌↔◌, List, [], ◌∷◌, length, get_or, sym, refl, ap, ◌∙◌, inl, inr, ⊎_elim, arith, lt-ltb, eq-eqb, eqb-true}
 use mathlib.Core.Bool.{false≢true}
 use mathlib.Core.Logic.{by_cases}
 use native.Mathlib.Decide.{dec_lt}
@@ -34,33 +32,6 @@ pub same_test : (p q : Bool) → (p ≡ true → q ≡ true) → (q ≡ true →
 same_test true q f g = sym (f refl)
 same_test false true f g = g refl
 same_test false false f g = refl
-
--- ---- the first entries of a list
-
--- the entries from place i on, of the first count
-pub from-here : (s : List ℕ) (count i : ℕ) → count ≤ length s → i < count → drop i (take count s) ≡ get_or s i 0 ∷ drop (i + 1) (take count s)
-from-here s count i long l = rw (drop-cons (take count s) i 0 fewer, get_or-take count s i 0 l, add-one)
-  where
-    fewer : i < length (take count s)
-    fewer = rw (length-take-le count s long) l
-
-pub none_left : (s : List ℕ) (count : ℕ) → count ≤ length s → drop count (take count s) ≡ []
-none_left s count long = drop_of_length-le (take count s) {i = count} (omega (arith, length-take-le count s long))
-
-module _ (r : ℕ) (sets : List ℕ) (count i : ℕ) (long : count ≤ length sets) (l : i < count) where
-  some-here : some_within (drop i (take count sets)) r ≡ containsb r (get_or sets i 0) || some_within (drop (i + 1) (take count sets)) r
-  unfolding some_within
-  some-here = ap (λ (ss : List ℕ). some_within ss r) (from-here sets count i long l)
-
-  pub some_turn : containsb r (get_or sets i 0) ≡ false → some_within (drop i (take count sets)) r ≡ some_within (drop (i + 1) (take count sets)) r
-  some_turn e = some-here ∙ rw e
-
-  pub some-found : containsb r (get_or sets i 0) ≡ true → some_within (drop i (take count sets)) r ≡ true
-  some-found e = some-here ∙ rw e
-
-pub some_end : (r : ℕ) (sets : List ℕ) (count : ℕ) → count ≤ length sets → some_within (drop count (take count sets)) r ≡ false
-unfolding some_within
-some_end r sets count long = rw (none_left sets count long)
 
 -- ---- the tests decide the meaning
 

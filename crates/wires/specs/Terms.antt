@@ -6,13 +6,13 @@
 --     Fault     some rule is broken
 --     Truths    a mask is the set of the true terms
 --     Meets     a rule has a term in a set
---     FirstBroken     the first of some rules that has none (document 02, request 4)
+--     BrokenAt, FirstBroken     the first of some rules that has none, and which it is, if any (document 02, request 4)
 --     Excuses   all terms of an excuse are true (document 02, request 2)
 --     Excused   some excuse's are
 --     Contains, containsb     a set contains all of another, and the same as a test that computes
 --     some_within              it contains all of some set of a list
 -- Assumes nothing.
-use Rattle.std.specs.Prelude.{◌≡◌, ℕ, ◌+◌, ◌*◌, ◌/◌, ◌%◌, ◌^◌, ◌<◌, ◌≤◌, Bool, true, false, ◌||◌, ◌⊎◌, ◌↔◌, List, [], ◌∷◌, ◌==◌, bit_and, nat_lt, slice_index}
+use Rattle.std.specs.Prelude.{◌≡◌, ℕ, ◌+◌, ◌*◌, ◌/◌, ◌%◌, ◌^◌, ◌<◌, ◌≤◌, Bool, true, false, ◌||◌, ◌⊎◌, ◌↔◌, List, [], ◌∷◌, ◌==◌, Option, MatchOption, bit_and, length, nat_lt, slice_index}
 use Rattle.wires.specs.Wires.{wire}
 
 -- a combination a of n wires, and the values x of cell A and y of cell B. The 2n + 4 terms of 14 wires just fit a mask of 32 bits.
@@ -55,11 +55,15 @@ pub record Truths (n a x y r : ℕ) : Type 0 where
 abbrev pub Meets : ℕ → ℕ → Type 0
 Meets rule set = (t : ℕ) × (wire rule t ≡ 1) × (wire set t ≡ 1)
 
--- r is the number of the first of `count` rules with no term in the set, from 0, or `count` where each has one
-pub record FirstBroken (rules : List ℕ) (count set r : ℕ) : Type 0 where
-  pub most : r ≤ count
-  pub broken : r < count → Meets (slice_index rules r) set → ⊥
+-- rule r, from 0, has no term in the set, and each before it has one
+pub record BrokenAt (rules : List ℕ) (set r : ℕ) : Type 0 where
+  pub within : r < length rules
+  pub broken : Meets (slice_index rules r) set → ⊥
   pub before : (i : ℕ) → i < r → Meets (slice_index rules i) set
+
+-- r is the number of the first of the rules with no term in the set, from 0, or `None` where each has one
+abbrev pub FirstBroken : List ℕ → ℕ → Option ℕ → Type 0
+FirstBroken rules set r = MatchOption r ((i : ℕ) → i < length rules → Meets (slice_index rules i) set) (BrokenAt rules set)
 
 -- all terms of the excuse are true at the combination a. They are terms of wires, below 2n, so the cells' values don't matter
 abbrev pub Excuses : ℕ → ℕ → ℕ → Type 0

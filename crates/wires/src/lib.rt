@@ -3,7 +3,7 @@
 // proofs/Rows, proofs/Parts and proofs/Terms. Leans on nothing.
 #![tactic(auto)]
 
-ghost use Rattle.std.specs.Prelude.{◌≡◌, ℕ, ◌+◌, ◌-◌, ◌%◌, ◌^◌, ◌<◌, ◌≤◌, true, ◌↔◌, length, take, bit_and, count_ones};
+ghost use Rattle.std.specs.Prelude.{◌≡◌, ℕ, ◌+◌, ◌-◌, ◌%◌, ◌^◌, ◌<◌, ◌≤◌, true, ◌↔◌, bit_and, count_ones};
 ghost use Rattle.wires.specs.Wires.{shown, placed};
 ghost use Rattle.wires.specs.Terms.{Setting, Truths, Meets, FirstBroken, containsb, some_within};
 
@@ -23,36 +23,37 @@ pub fn row_count(seen: u32) -> usize
 }
 
 // The row that the combination `a` shows to a cell that sees the wires of `seen`: the next wire is the
-// lowest that is left, and its value goes to the next digit of the row.
+// lowest that is left, and its value goes to the next digit of the row. A `for` over the count of the seen wires was tried: it
+// is slower where few are seen, by a twentieth and more, since they have to be counted first.
 pub fn row_shown(seen: u32, a: u32) -> u32
     ensures row { (n : ℕ) → seen < 2 ^ n → result ≡ shown n seen a }
     ensures below { result < 2 ^ count_ones seen }
 {
     let mut left = seen;
-    let mut row: u32 = 0;
+    let mut row = 0;
     let mut at: u32 = 0;
     while left != 0 {
         let p = u32::trailing_zeros(left);
-        row = row | (((a >> p) & 1) << at);
+        row |= ((a >> p) & 1) << at;
         at += 1;
-        left = left & (left - 1);
+        left &= left - 1;
     }
     row
 }
 
 // The lowest combination that shows the row `row` to a cell that sees the wires of `seen`: the row's digits go to the seen wires,
-// the lowest first, and every other wire has 0.
+// the lowest first, and every other wire has 0. The same loop as in `row_shown`.
 pub fn row_placed(seen: u32, row: u32) -> u32
     ensures { (n : ℕ) → seen < 2 ^ n → result ≡ placed n seen row }
 {
     let mut left = seen;
     let mut rest = row;
-    let mut a: u32 = 0;
+    let mut a = 0;
     while left != 0 {
         let p = u32::trailing_zeros(left);
-        a = a | ((rest % 2) << p);
-        rest = rest / 2;
-        left = left & (left - 1);
+        a |= (rest % 2) << p;
+        rest /= 2;
+        left &= left - 1;
     }
     a
 }
@@ -66,25 +67,16 @@ pub fn next_part(part: u32, unseen: u32) -> u32
     std::num::wrapping_sub_u32(part, unseen) & unseen
 }
 
-// The digits of the two terms of a variable: the plain one is true where the value is 1, the negated one where it is 0.
-fn term_pair(value: u32) -> u32
-    requires { value < 2 }
-    ensures { result ≡ 2 - value }
-{
-    if value == 1 { 1 } else { 2 }
-}
-
-// The set of the true terms where the wires have the combination `a`, cell A has `x` and cell B has `y`.
+// The set of the true terms where the wires have the combination `a`, cell A has `x` and cell B has `y`. A variable has two terms,
+// and so two digits: the plain one, true where the value is 1, is 1 of the two, and the negated one, true where it is 0, is 2.
 pub fn truths(n: u32, a: u32, x: u32, y: u32) -> u32
     requires { Setting n a x y }
     ensures { Truths n a x y result }
 {
     let values = a | (x << n) | (y << (n + 1));
-    let mut set: u32 = 0;
-    let mut v: u32 = 0;
-    while v < n + 2 {
-        set = set | (term_pair((values >> v) % 2) << (2 * v));
-        v += 1;
+    let mut set = 0;
+    for v in 0..n + 2 {
+        set |= (2 - (values >> v) % 2) << (2 * v);
     }
     set
 }
@@ -93,25 +85,14 @@ pub fn truths(n: u32, a: u32, x: u32, y: u32) -> u32
 pub fn rule_holds(rule: u32, truths: u32) -> bool
     ensures { (result ≡ true) ↔ Meets rule truths }
 {
-    if rule & truths == 0 {
-        return false;
-    }
-    true
+    rule & truths != 0
 }
 
-// The first of `count` rules with no term among the true ones, or `count` where each has one.
-pub fn first_broken(rules: &[u32], count: usize, truths: u32) -> usize
-    requires { count ≤ length rules.now }
-    ensures { FirstBroken rules.now count truths result }
+// The first of the rules with no term among the true ones, or `None` where each has one.
+pub fn first_broken(rules: &[u32], truths: u32) -> Option<usize>
+    ensures { FirstBroken rules.now truths result }
 {
-    let mut rule: usize = 0;
-    while rule < count {
-        if !rule_holds(rules[rule], truths) {
-            return rule;
-        }
-        rule += 1;
-    }
-    rule
+    rules.iter().position(|rule| !rule_holds(*rule, truths))
 }
 
 // Does the set `r` contain all of the set `s`?
@@ -121,17 +102,9 @@ pub fn contains(r: u32, s: u32) -> bool
     s & r == s
 }
 
-// Does the set `r` contain all of one of the first `count` sets?
-pub fn some_within(sets: &[u32], count: usize, r: u32) -> bool
-    requires { count ≤ length sets.now }
-    ensures { result ≡ some_within (take count sets.now) r }
+// Does the set `r` contain all of one of the sets?
+pub fn some_within(sets: &[u32], r: u32) -> bool
+    ensures { result ≡ some_within sets.now r }
 {
-    let mut i: usize = 0;
-    while i < count {
-        if contains(r, sets[i]) {
-            return true;
-        }
-        i += 1;
-    }
-    false
+    sets.iter().any(|set| contains(r, *set))
 }

@@ -11,13 +11,13 @@ use mathlib.Core.List.{List, ◌++◌}
 use Prim.Native.Nat.{ℕ, ◌≤◌}
 use lib.ListN.{length, take, drop}
 use lib.Seq.{take-append_seam}
+use Rattle.std.specs.Prelude.{Ok}
 use Rattle.steps.specs.Outcome.{success}
 use Rattle.sheet.specs.declared.Form.TheVariants.{One}
 use Rattle.sheet.specs.Job.{Job, accepted}
 use Rattle.sheet.specs.JobSheet.{pin_limit, terms_of, longest, read_job, outcome_of, read_outcome}
 use Rattle.sheet.proofs.Length.{accepted-short}
 use Rattle.answer.specs.Written.{Bytes}
-use Rattle.writer.specs.declared.Judged.TheVariants.{Fine}
 use Rattle.writer.specs.JobWritten.{job_sheet, Describes}
 use Rattle.writer.specs.Writing.{judge, write_outcome, write_exit}
 use Rattle.writer.proofs.Judging.{fine-outcome, fine-exit}
@@ -29,7 +29,7 @@ use Rattle.writer.proofs.Found.{job-found}
 
 -- ---- there and back
 
-module _ (j : Job) (room : ℕ) (d : Describes j) (fine : judge j room ≡ Fine) where
+module _ (j : Job) (room : ℕ) (d : Describes j) (fine : judge j room ≡ Ok tt) where
   pub write_read : read_job One (job_sheet j) ≡ accepted j
   write_read = sound-read j (fine-sound j room d fine)
 
@@ -39,7 +39,7 @@ module _ (j : Job) (room : ℕ) (d : Describes j) (fine : judge j room ≡ Fine)
 pub read-write : (s : List ℕ) (j : Job) → Bytes s → read_job One s ≡ accepted j → job_sheet j ≡ s
 read-write s j b ok = (job-found s j b ok).1
 
-pub read-fine : (s : List ℕ) (j : Job) (room : ℕ) → Bytes s → read_job One s ≡ accepted j → length s ≤ room → judge j room ≡ Fine
+pub read-fine : (s : List ℕ) (j : Job) (room : ℕ) → Bytes s → read_job One s ≡ accepted j → length s ≤ room → judge j room ≡ Ok tt
 read-fine s j room b ok l =
     let f = job-found s j b ok in
     sound-fine j f.0 room (rw f.1 l)

@@ -14,10 +14,11 @@ use native.Mathlib.Omega.{arith}
 use borrow.Author.Tests.{lt-ltb, le-leb, ltb-true, leb-true}
 use lib.Dec.{ltb, leb}
 use lib.ListN.{length, get_or}
+use Rattle.std.specs.Prelude.{Ok}
 use Rattle.sheet.specs.JobSheet.{pin_limit, mask_of}
 use Rattle.wires.proofs.Digits.{low_digit, half-below}
 use Rattle.answer.specs.Written.{Bytes}
-use Rattle.writer.specs.declared.Judged.TheVariants.{Fine}
+use Rattle.writer.specs.declared.Section.{Section}
 use Rattle.writer.specs.JobWritten.{members_from, members}
 use Rattle.writer.specs.Writing.{pins_rise, all_below}
 use Rattle.writer.proofs.Sets.{members-off, members-on, members-none}
@@ -32,7 +33,7 @@ rising-from low least limit [] l r = tt
 rising-from low least limit (e ∷ es) l r = (omega arith, r.1, r.2)
 
 pub rising-lt : (least limit : ℕ) (es : List ℕ) → Rising least limit es → (i : ℕ) → i < length es → get_or es i 0 < limit
-rising-lt least limit [] r i h = let no : ⊥ = omega arith in absurd no
+rising-lt least limit [] r i h = absurd (omega arith)
 rising-lt least limit (e ∷ es) r zero h = r.1
 rising-lt least limit (e ∷ es) r (suc i) h = rising-lt (e + 1) limit es r.2 i (omega arith)
 
@@ -81,7 +82,7 @@ none-shifted p = refl
 
 members-shifted : (k p limit : ℕ) (es : List ℕ) → limit ≤ p + k → Rising p limit es → members_from k p (shifted p es) ≡ es
 members-shifted k p limit [] l r = rw (none-shifted p) (members-none k p)
-members-shifted zero p limit (e ∷ es) l r = let no : ⊥ = omega arith in absurd no
+members-shifted zero p limit (e ∷ es) l r = absurd (omega arith)
 members-shifted (suc k) p limit (e ∷ es) l r =
     by_cases (dec_le e p)
     (λ h. let same : e ≡ p = omega arith in
@@ -122,27 +123,27 @@ mask-members m h = sym (shifted-mask (members m)) ∙ shifted-members 32 0 m h
 
 -- ---- judging entries
 
-module _ (limit section : ℕ) (place : ℕ → ℕ) where
-  pub below-fine : (i least most : ℕ) (es : List ℕ) → Rising least most es → all_below limit section place i es ≡ Fine → Rising least limit es
+module _ (limit : ℕ) (section : Section) (place : ℕ → ℕ) where
+  pub below-fine : (i least most : ℕ) (es : List ℕ) → Rising least most es → all_below limit section place i es ≡ Ok tt → Rising least limit es
   unfolding all_below
   below-fine i least most [] r h = tt
   below-fine i least most (e ∷ es) r h =
-      let t = picked-fine (ltb e limit) _ _ _ _ h in
+      let t = picked-fine (ltb e limit) _ _ h in
       (r.0, ltb-true e limit t.0, below-fine (i + 1) (e + 1) most es r.2 t.1)
 
-  pub fine-below : (i least : ℕ) (es : List ℕ) → Rising least limit es → all_below limit section place i es ≡ Fine
+  pub fine-below : (i least : ℕ) (es : List ℕ) → Rising least limit es → all_below limit section place i es ≡ Ok tt
   unfolding all_below
   fine-below i least [] r = refl
   fine-below i least (e ∷ es) r = rw (lt-ltb e limit r.1) (fine-below (i + 1) (e + 1) es r.2)
 
-pub pins-fine : (least i : ℕ) (ps : List ℕ) → Bytes ps → pins_rise least i ps ≡ Fine → Rising least pin_limit ps
+pub pins-fine : (least i : ℕ) (ps : List ℕ) → Bytes ps → pins_rise least i ps ≡ Ok tt → Rising least pin_limit ps
 unfolding pins_rise
 pins-fine least i [] b h = tt
 pins-fine least i (p ∷ ps) b h =
-    let t = picked-fine (leb least p) _ _ _ _ h in
+    let t = picked-fine (leb least p) _ _ h in
     (leb-true least p t.0, b 0 (omega arith), pins-fine (p + 1) (i + 1) ps (λ n l. b (suc n) (omega arith)) t.1)
 
-pub fine-pins : (least i : ℕ) (ps : List ℕ) → Rising least pin_limit ps → pins_rise least i ps ≡ Fine
+pub fine-pins : (least i : ℕ) (ps : List ℕ) → Rising least pin_limit ps → pins_rise least i ps ≡ Ok tt
 unfolding pins_rise
 fine-pins least i [] r = refl
 fine-pins least i (p ∷ ps) r = rw (le-leb least p r.0) (fine-pins (p + 1) (i + 1) ps r.2)

@@ -5,7 +5,7 @@ use Rattle.steps.specs.Outcome.{success, refusal}
 use Rattle.sheet.specs.Job.{Job}
 use Rattle.sheet.specs.Examples.{j1, j2, j3, j4}
 use Rattle.writer.specs.JobWritten.{members_from, rules_bytes, job_sheet, described}
-use Rattle.writer.specs.Writing.{within, pins_rise, all_below, judge_pins, judge_set, judge_each, judge_rules, judge_room, judge, write_outcome}
+use Rattle.writer.specs.Writing.{pins_rise, all_below, judge_pins, judge_set, judge_each, judge_rules, judge, write_outcome}
 
 pub jobs : List Job
 jobs =
@@ -47,9 +47,9 @@ outcomes =
 
 -- with a buffer of 9 bytes, one too few for the last; with 10 it is written
 pub refused-so : map (λ j. write_outcome j 9) amiss ≡ outcomes
-unfolding amiss outcomes members_from rules_bytes job_sheet within pins_rise all_below judge_pins judge_set judge_each judge_rules judge_room judge write_outcome
+unfolding amiss outcomes members_from rules_bytes job_sheet pins_rise all_below judge_pins judge_set judge_each judge_rules judge write_outcome
 refused-so = refl
 
 pub just_so : write_outcome (described [] 0 0 (15 ∷ [])) 10 ≡ success 0 10
-unfolding members_from rules_bytes job_sheet within pins_rise all_below judge_pins judge_set judge_each judge_rules judge_room judge write_outcome
+unfolding members_from rules_bytes job_sheet pins_rise all_below judge_pins judge_set judge_each judge_rules judge write_outcome
 just_so = refl

@@ -4,116 +4,131 @@
 // `sheet` for the limits.
 #![tactic(auto)]
 
-ghost use Rattle.std.specs.Prelude.{◌≡◌, [], ◌∷◌, ◌+◌, ◌≤◌, ◌<◌, length};
-ghost use Rattle.std.proofs.lemmas.List.Edits.{sets};
+ghost use Rattle.std.specs.Prelude.{◌≡◌, ◌+◌, ◌≤◌, ◌<◌, length, OnOk};
+ghost use Rattle.sheet.specs.Job.{Job};
 ghost use Rattle.sheet.specs.JobSheet.{wire_limit, rule_limit};
-ghost use Rattle.answer.specs.Written.{two};
+ghost use Rattle.answer.specs.Page.{Room, Wrote};
 ghost use Rattle.writer.specs.JobWritten.{members, counted, rules_bytes, job_sheet, described};
-ghost use Rattle.writer.specs.Writing.{within, judge_pins, judge_seen, judge_rule, judge_rules, judge_room, judge, write_outcome, write_exit};
+ghost use Rattle.writer.specs.Writing.{within, judge_pins, judge_seen, judge_rule, judge_rules, judge_room, judge, refusal_of, write_outcome, write_exit};
 
-use answer::write_rows;
+use answer::page::Page;
 use sheet::{RULE_LIMIT, SEEN_LIMIT, WIRE_LIMIT, term_limit};
+use std::marker::Model;
 use steps::{Outcome, refused, succeeded};
 
-// What judging a description comes to: nothing is amiss, or the code, section and place of the first thing that is.
+// The sections of a sheet, numbered from 1.
 #[derive(Clone, Copy)]
-pub enum Judged {
-    Fine,
-    Amiss(u8, u8, usize),
+pub enum Section {
+    Pins = 1,
+    SeesA = 2,
+    SeesB = 3,
+    Rules = 4,
+}
+
+// What is amiss with a description: a count is above its limit, a pin is not above the one before, an entry is not below
+// its limit, each with its place, or the buffer has no room for the sheet.
+#[derive(Clone, Copy)]
+pub enum Amiss {
+    TooMany(Section, usize),
+    NotRising(usize),
+    TooHigh(Section, usize),
+    NoRoom,
+}
+
+// The outcome that tells what is amiss, with document 01's number.
+impl From<Amiss> for Outcome {
+    ghost from_gives = { λ amiss told. told ≡ refusal_of amiss };
+
+    fn from(amiss: Amiss) -> Outcome {
+        match amiss {
+            Amiss::TooMany(section, place) => refused(2, section as u8, place),
+            Amiss::NotRising(place) => refused(3, Section::Pins as u8, place),
+            Amiss::TooHigh(section, place) => refused(4, section as u8, place),
+            Amiss::NoRoom => refused(6, 0, 0),
+        }
+    }
 }
 
 // A count against its limit.
-fn within(n: usize, most: usize, section: u8, place: usize) -> Judged
-    ensures { result ≡ within most section place n }
+fn within(n: usize, most: usize, section: Section, place: usize) -> Result<(), Amiss>
+    ensures value { result ≡ within most section place n }
+    ensures few { OnOk result (n ≤ most) }
 {
     if n <= most {
-        Judged::Fine
+        Ok(())
     } else {
-        Judged::Amiss(2, section, place)
+        Err(Amiss::TooMany(section, place))
     }
 }
 
 // The pins rise, and are not too many.
-fn judge_pins(pins: &[u8]) -> Judged
-    ensures { result ≡ judge_pins pins.now }
+#[tactic(auto, using(crate::proofs::Judging::pin_steps), unfolding(crate::specs::Writing::judge_pins))]
+fn judge_pins(pins: &[u8]) -> Result<(), Amiss>
+    ensures value { result ≡ judge_pins pins.now }
+    ensures few { OnOk result (length pins.now ≤ wire_limit) }
 {
-    let counted = within(pins.len(), WIRE_LIMIT as usize, 1, 0);
-    let Judged::Fine = counted else {
-        return counted;
-    };
+    within(pins.len(), WIRE_LIMIT as usize, Section::Pins, 0)?;
     let mut least: u32 = 0;
-    let mut next: usize = 0;
-    while next < pins.len() {
-        let i = next;
-        next += 1;
-        let pin = pins[i] as u32;
+    for (i, pin) in pins.iter().enumerate() {
+        let pin = u32::from(*pin);
         if pin < least {
-            return Judged::Amiss(3, 1, i);
+            return Err(Amiss::NotRising(i));
         }
         least = pin + 1;
     }
-    Judged::Fine
+    Ok(())
 }
 
 // How many entries a set has.
 fn size(set: u32) -> usize
-    ensures { result ≡ length (members set) }
+    ensures value { result ≡ length (members set) }
+    ensures few { result ≤ 32 }
 {
-    u32::count_ones(set) as usize
+    set.count_ones() as usize
 }
 
 // The wires that a cell sees. Those not below `wires` come last.
-fn judge_seen(seen: u32, wires: u32, section: u8) -> Judged
+#[tactic(auto, using(crate::proofs::Judging::fewer), unfolding(crate::specs::Writing::judge_set))]
+fn judge_seen(seen: u32, wires: u32, section: Section) -> Result<(), Amiss>
     requires { wires < 32 }
     ensures { result ≡ judge_seen wires section seen }
 {
     let many = size(seen);
-    let counted = within(many, SEEN_LIMIT as usize, section, 0);
-    let Judged::Fine = counted else {
-        return counted;
-    };
+    within(many, SEEN_LIMIT as usize, section, 0)?;
     let high = seen >> wires;
     if high != 0 {
-        Judged::Amiss(4, section, many - size(high))
+        Err(Amiss::TooHigh(section, many - size(high)))
     } else {
-        Judged::Fine
+        Ok(())
     }
 }
 
 // The terms of a rule.
-fn judge_rule(rule: u32, terms: u32, number: usize) -> Judged
+#[tactic(auto, unfolding(crate::specs::Writing::judge_set))]
+fn judge_rule(rule: u32, terms: u32, number: usize) -> Result<(), Amiss>
     requires { terms < 32 }
     ensures { result ≡ judge_rule terms number rule }
 {
-    let counted = within(size(rule), terms as usize, 4, number);
-    let Judged::Fine = counted else {
-        return counted;
-    };
+    within(size(rule), terms as usize, Section::Rules, number)?;
     if rule >> terms != 0 {
-        Judged::Amiss(4, 4, number)
+        Err(Amiss::TooHigh(Section::Rules, number))
     } else {
-        Judged::Fine
+        Ok(())
     }
 }
 
 // The rules, one by one.
-fn judge_rules(rules: &[u32], terms: u32) -> Judged
+#[tactic(auto, using(crate::proofs::Judging::rule_steps), unfolding(crate::specs::Writing::judge_rules))]
+fn judge_rules(rules: &[u32], terms: u32) -> Result<(), Amiss>
     requires { terms < 32 }
-    ensures { result ≡ judge_rules terms rules.now }
+    ensures value { result ≡ judge_rules terms rules.now }
+    ensures few { OnOk result (length rules.now ≤ rule_limit) }
 {
-    let counted = within(rules.len(), RULE_LIMIT as usize, 4, 0);
-    let Judged::Fine = counted else {
-        return counted;
-    };
-    let mut number: usize = 0;
-    while number < rules.len() {
-        let rule = judge_rule(rules[number], terms, number);
-        let Judged::Fine = rule else {
-            return rule;
-        };
-        number += 1;
+    within(rules.len(), RULE_LIMIT as usize, Section::Rules, 0)?;
+    for (number, rule) in rules.iter().enumerate() {
+        judge_rule(*rule, terms, number)?;
     }
-    Judged::Fine
+    Ok(())
 }
 
 // How many bytes the rules take.
@@ -121,151 +136,133 @@ fn rules_length(rules: &[u32]) -> usize
     requires { length rules.now ≤ rule_limit }
     ensures { result ≡ length (rules_bytes rules.now) }
 {
-    let mut total: usize = 0;
-    let mut i: usize = 0;
-    while i < rules.len() {
-        total += 1 + size(rules[i]);
-        i += 1;
-    }
-    total
-}
-
-// How many bytes the sheet takes.
-fn sheet_length(pins: &[u8], sees_a: u32, sees_b: u32, rules: &[u32]) -> usize
-    requires { (length pins.now ≤ wire_limit) × (length rules.now ≤ rule_limit) }
-    ensures { result ≡ length (job_sheet (described pins.now sees_a sees_b rules.now)) }
-{
-    5 + pins.len() + size(sees_a) + size(sees_b) + rules_length(rules)
+    rules.iter().map(|rule| 1 + size(*rule)).sum()
 }
 
 // There is room for so many bytes.
-fn judge_room(room: usize, long: usize) -> Judged
+fn judge_room(room: usize, long: usize) -> Result<(), Amiss>
     ensures { result ≡ judge_room room long }
 {
     if long <= room {
-        Judged::Fine
+        Ok(())
     } else {
-        Judged::Amiss(6, 0, 0)
+        Err(Amiss::NoRoom)
     }
 }
 
-// The whole description, section by section, and then the room for its sheet.
-fn judge(pins: &[u8], sees_a: u32, sees_b: u32, rules: &[u32], room: usize) -> Judged
-    ensures { result ≡ judge (described pins.now sees_a sees_b rules.now) room }
+// Writes the pins: their count, then each.
+fn write_pins(page: &mut Page, pins: &[u8])
+    requires room { Room page.old (counted pins.now) }
+    requires few { length pins.now ≤ wire_limit }
+    ensures { Wrote page.old (counted pins.now) page.new }
 {
-    let first = judge_pins(pins);
-    let Judged::Fine = first else {
-        return first;
-    };
-    let wires = pins.len() as u32;
-    let second = judge_seen(sees_a, wires, 2);
-    let Judged::Fine = second else {
-        return second;
-    };
-    let third = judge_seen(sees_b, wires, 3);
-    let Judged::Fine = third else {
-        return third;
-    };
-    let fourth = judge_rules(rules, term_limit(wires));
-    let Judged::Fine = fourth else {
-        return fourth;
-    };
-    judge_room(room, sheet_length(pins, sees_a, sees_b, rules))
+    page.write_byte(pins.len() as u8);
+    page.write(pins);
 }
 
-// Writes a byte. Each writer answers the place after what it wrote; the rest of the buffer stays.
-fn write_byte(buf: &mut [u8], at: usize, v: usize) -> usize
-    requires { (at < length buf.old) × (v < 256) }
-    ensures value { result ≡ at + 1 }
-    ensures buf_after { buf.new ≡ sets buf.old at (v ∷ []) }
-{
-    buf[at] = v as u8;
-    at + 1
-}
-
-// Writes the pins at the front: their count, then each.
-fn write_pins(buf: &mut [u8], pins: &[u8]) -> usize
-    requires { (1 + length pins.now ≤ length buf.old) × (length pins.now ≤ wire_limit) }
-    ensures value { result ≡ 1 + length pins.now }
-    ensures buf_after { buf.new ≡ sets buf.old 0 (counted pins.now) }
-{
-    let from = write_byte(buf, 0, pins.len());
-    write_rows(buf, from, pins)
-}
-
-// Writes the entries of a set, the lowest that is left each time.
-fn write_members(buf: &mut [u8], at: usize, set: u32) -> usize
-    requires { at + length (members set) ≤ length buf.old }
-    ensures value { result ≡ at + length (members set) }
-    ensures buf_after { buf.new ≡ sets buf.old at (members set) }
+// Writes the entries of a set, the lowest that is left each time: the mask itself counts down, and no index.
+fn write_members(page: &mut Page, set: u32)
+    requires { Room page.old (members set) }
+    ensures { Wrote page.old (members set) page.new }
 {
     let mut left = set;
-    let mut place = at;
     while left != 0 {
-        buf[place] = u32::trailing_zeros(left) as u8;
-        place += 1;
-        left = left & (left - 1);
+        page.write_byte(left.trailing_zeros() as u8);
+        left &= left - 1;
     }
-    place
 }
 
 // Writes a set: its count, then its entries.
-fn write_set(buf: &mut [u8], at: usize, set: u32) -> usize
-    requires { at + 1 + length (members set) ≤ length buf.old }
-    ensures value { result ≡ at + 1 + length (members set) }
-    ensures buf_after { buf.new ≡ sets buf.old at (counted (members set)) }
+fn write_set(page: &mut Page, set: u32)
+    requires { Room page.old (counted (members set)) }
+    ensures { Wrote page.old (counted (members set)) page.new }
 {
-    let from = write_byte(buf, at, size(set));
-    write_members(buf, from, set)
-}
-
-// Writes the count of rules, low byte first.
-fn write_count(buf: &mut [u8], at: usize, count: usize) -> usize
-    requires { (at + 2 ≤ length buf.old) × (count ≤ rule_limit) }
-    ensures value { result ≡ at + 2 }
-    ensures buf_after { buf.new ≡ sets buf.old at (two count) }
-{
-    let middle = write_byte(buf, at, count % 256);
-    write_byte(buf, middle, count / 256)
+    page.write_byte(size(set) as u8);
+    write_members(page, set);
 }
 
 // Writes the rules.
-fn write_rules(buf: &mut [u8], at: usize, rules: &[u32]) -> usize
-    requires { at + length (rules_bytes rules.now) ≤ length buf.old }
-    ensures value { result ≡ at + length (rules_bytes rules.now) }
-    ensures buf_after { buf.new ≡ sets buf.old at (rules_bytes rules.now) }
+fn write_rules(page: &mut Page, rules: &[u32])
+    requires { Room page.old (rules_bytes rules.now) }
+    ensures { Wrote page.old (rules_bytes rules.now) page.new }
 {
-    let mut place = at;
-    let mut i: usize = 0;
-    while i < rules.len() {
-        place = write_set(buf, place, rules[i]);
-        i += 1;
+    for rule in rules {
+        write_set(page, *rule);
     }
-    place
 }
 
-// Writes the sheet. Answers its length.
-fn write_sheet(pins: &[u8], sees_a: u32, sees_b: u32, rules: &[u32], buf: &mut [u8]) -> usize
-    requires pins_len_bound { (length pins.now ≤ wire_limit) × (length rules.now ≤ rule_limit) }
-    requires rules_in_bounds { length (job_sheet (described pins.now sees_a sees_b rules.now)) ≤ length buf.old }
-    ensures value { result ≡ length (job_sheet (described pins.now sees_a sees_b rules.now)) }
-    ensures buf_after { buf.new ≡ sets buf.old 0 (job_sheet (described pins.now sees_a sees_b rules.now)) }
-{
-    let at_a = write_pins(buf, pins);
-    let at_b = write_set(buf, at_a, sees_a);
-    let at_count = write_set(buf, at_b, sees_b);
-    let at_rules = write_count(buf, at_count, rules.len());
-    write_rules(buf, at_rules, rules)
+// A description of a job: the pins, the two sets of seen wires and the rules, each set a mask. A clause sees the job.
+#[derive(Drop)]
+struct Description<'a> {
+    pins: &'a [u8],
+    sees_a: u32,
+    sees_b: u32,
+    rules: &'a [u32],
 }
 
-// The writer: for every description and every lent buffer.
+impl<'a> Model for Description<'a> {
+    ghost Value = { Job };
+
+    ghost view = { λ d. described d.pins.now d.sees_a d.sees_b d.rules.now };
+}
+
+impl Description<'_> {
+    // How many bytes the sheet takes.
+    fn sheet_length(&self) -> usize
+        requires { (length self.now.pins ≤ wire_limit) × (length self.now.rules ≤ rule_limit) }
+        ensures { result ≡ length (job_sheet self.now) }
+    {
+        5 + self.pins.len() + size(self.sees_a) + size(self.sees_b) + rules_length(self.rules)
+    }
+
+    // The whole description, section by section, and then the room for its sheet.
+    #[tactic(auto, unfolding(crate::specs::Writing::judge))]
+    fn judge(&self, room: usize) -> Result<(), Amiss>
+        ensures { result ≡ judge self.now room }
+    {
+        judge_pins(self.pins)?;
+        let wires = self.pins.len() as u32;
+        judge_seen(self.sees_a, wires, Section::SeesA)?;
+        judge_seen(self.sees_b, wires, Section::SeesB)?;
+        judge_rules(self.rules, term_limit(wires))?;
+        judge_room(room, self.sheet_length())
+    }
+
+    // Writes the sheet.
+    fn write_sheet(&self, page: &mut Page)
+        requires limits { (length self.now.pins ≤ wire_limit) × (length self.now.rules ≤ rule_limit) }
+        requires room { Room page.old (job_sheet self.now) }
+        ensures { Wrote page.old (job_sheet self.now) page.new }
+    {
+        write_pins(page, self.pins);
+        write_set(page, self.sees_a);
+        write_set(page, self.sees_b);
+        page.write_two(self.rules.len() as u16);
+        write_rules(page, self.rules);
+    }
+}
+
+// The writer: for every description and every lent buffer. Its parameters are those that C hands over.
+#[tactic(auto, unfolding(crate::specs::Writing::write_outcome, crate::specs::Writing::write_exit))]
 pub fn write_job(pins: &[u8], sees_a: u32, sees_b: u32, rules: &[u32], sheet: &mut [u8]) -> Outcome
     ensures value { result ≡ write_outcome (described pins.now sees_a sees_b rules.now) (length sheet.old) }
     ensures sheet_after { sheet.new ≡ write_exit (described pins.now sees_a sees_b rules.now) sheet.old }
 {
-    let judged = judge(pins, sees_a, sees_b, rules, sheet.len());
-    match judged {
-        Judged::Fine => succeeded(0, write_sheet(pins, sees_a, sees_b, rules, sheet)),
-        Judged::Amiss(code, section, place) => refused(code, section, place),
+    let description = Description {
+        pins,
+        sees_a,
+        sees_b,
+        rules,
+    };
+    match description.judge(sheet.len()) {
+        Ok(()) => {
+            let mut page = Page {
+                bytes: sheet,
+                at: 0,
+            };
+            description.write_sheet(&mut page);
+            succeeded(0, page.at)
+        }
+        Err(amiss) => Outcome::from(amiss),
     }
 }

@@ -1,23 +1,24 @@
 -- `answer::read_bits` meets its contract, by its invariant. Assumes nothing.
-use mathlib.Core.Path.{refl, sym, ap, ◌∙◌}
+use Rattle.std.proofs.Common.{rules, ◌+◌, ◌-◌, sym, ap, ◌∙◌, arith}
 use Rattle.steps.specs.Found.{as_read}
 use Rattle.steps.proofs.Steps.{found, faulty}
 use Rattle.answer.specs.AnswerFound.{bits_pass}
 use Rattle.answer.proofs.Many.{bits-many, many-go, many-stop, many-done}
 use Rattle.answer.proofs.read_bits.Goals as goal
 
-pub loop-left-init : goal.loop-left-init
+pub loop-init : goal.loop-init
 unfolding bits_pass
-loop-left-init c = refl
+loop-init c = search rules
 
-pub returns-in_default : goal.returns-in_default
-returns-in_default c = let is = faulty _ _ _ c.read_bit-row.ensures c.in_default.is in
-    c.in_default.is
-    ∙ ap as_read (sym (c.loop-left.invariant ∙ many-stop bits-many _ _ _ _ _ c.loop-left-test.true is))
+pub returns-in_err-next : goal.returns-in_err-next
+returns-in_err-next c =
+    let is = faulty _ _ _ c.read_bit.ensures c.in_err-next.was in
+    rw (c.loop.invariant ∙ many-stop bits-many c.args.rows _ _ (c.args.rows - c.loop.counter) _ (omega arith) is) (search rules)
 
-pub loop-left-preserved : goal.loop-left-preserved
-loop-left-preserved c = let is = found _ _ _ _ c.read_bit-row.ensures c.in-Got.is in
-    c.loop-left.invariant ∙ many-go bits-many _ _ _ _ _ _ c.loop-left-test.true is
+pub loop-preserved : goal.loop-preserved
+loop-preserved c =
+    let is = found _ _ _ _ c.read_bit.ensures c.in_ok-next.was in
+    c.loop.invariant ∙ many-go bits-many _ _ _ _ (c.args.rows - (c.loop.counter + 1)) _ _ (omega arith) is
 
 pub returns : goal.returns
-returns c = ap as_read (sym (c.loop-left.invariant ∙ many-done bits-many _ _ _ _ c.loop-left-test.false))
+returns c = ap as_read (sym (c.loop.invariant ∙ many-done bits-many _ _ _ (c.args.rows - c.loop.counter) (omega arith)))

@@ -1,36 +1,17 @@
 -- `cubes::or_blocks` meets its contract, by its invariant. Assumes nothing.
-use mathlib.Core.Path.{◌∙◌}
 use Prim.Native.Nat.{◌-◌}
 use native.Mathlib.Omega.{arith}
 use lib.Bits.{and_self, and_le_l}
-use Rattle.cubes.proofs.Parts.{part-le, and-within}
+use Rattle.cubes.proofs.Parts.{and-within}
 use Rattle.cubes.proofs.Words.{none_yet, last, next}
 use Rattle.cubes.proofs.or_blocks.Goals as goal
 
 pub loop-sub-init : goal.loop-sub-init
 loop-sub-init c = (and_self c.args.free, none_yet _ _ _ _ _)
 
-pub overflow_add-base : goal.overflow_add-base
-overflow_add-base c = omega (arith, part-le c.loop-sub.sub c.args.free c.loop-sub.invariant.0)
-
-pub overflow_cast-base : goal.overflow_cast-base
-overflow_cast-base c = omega (arith, part-le c.loop-sub.sub c.args.free c.loop-sub.invariant.0)
-
-pub overflow_mul-base : goal.overflow_mul-base
-overflow_mul-base c = omega (arith, part-le c.loop-sub.sub c.args.free c.loop-sub.invariant.0)
-
-pub or_block-requires : goal.or_block-requires
-or_block-requires c = record {
-  w_bound = omega (arith, part-le c.loop-sub.sub c.args.free c.loop-sub.invariant.0);
-  table_len = c.loop-sub.invariant.1.size ∙ c.requires.table_len;
-}
-
 pub returns-then-sub-eq0 : goal.returns-then-sub-eq0
 returns-then-sub-eq0 c = let inv = c.loop-sub.invariant in
     last _ _ _ _ _ _ _ _ inv.0 inv.1 c.or_block.ensures c.if-sub-eq0.true
-
-pub overflow_sub-sub : goal.overflow_sub-sub
-overflow_sub-sub c = omega arith
 
 pub loop-sub-smaller : goal.loop-sub-smaller
 loop-sub-smaller c = omega (arith, and_le_l (c.loop-sub.sub - 1) c.args.free)

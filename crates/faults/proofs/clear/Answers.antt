@@ -1,43 +1,25 @@
--- `faults::clear` meets its contract, by its invariant. Assumes nothing.
-use mathlib.Core.Path.{◌∙◌}
-use mathlib.Core.List.{List}
-use Prim.Native.Nat.{ℕ, ◌+◌, ◌<◌}
+-- `faults::clear` meets its contract. Assumes nothing.
+use mathlib.Core.Path.{◌≡◌, ap, ◌∙◌}
+use mathlib.Core.List.{List, ◌++◌}
+use Prim.Native.Nat.{ℕ, ◌≤◌}
 use native.Mathlib.Omega.{arith}
-use lib.ListN.{length, set, length-set}
-use lib.Seq.{get_or-set_same, get_or-set_other}
-use borrow.Author.Count.{below_more}
-use Rattle.faults.proofs.clear.Invariants.{Inv}
+use lib.ListN.{length, get_or, take, drop, replicate, length-append, length-drop, get_or-append}
+use lib.Seq.{length-take-le}
+use Rattle.std.proofs.lemmas.List.{get_or-replicate, length-replicate}
+use Rattle.faults.specs.Table.{Cleared}
 use Rattle.faults.proofs.clear.Goals as goal
 
-turn : (end i : ℕ) (s t : List ℕ) → Inv end i s t → i < end → i < length t → Inv end (i + 1) s (set t i 0)
-turn end i s t v l h = record {
-  within = omega arith;
-  size = length-set t i 0 ∙ v.size;
-  zeros = below_more _ _
-      (λ w k. get_or-set_other t i w 0 0 (λ e. omega arith) ∙ v.zeros w k)
-      (get_or-set_same t i 0 0 h);
+cleared : (end : ℕ) (s u : List ℕ) → end ≤ length s → u ≡ replicate (length (take end s)) 0 → Cleared end s (u ++ drop end s)
+cleared end s u l e = record {
+  size = omega (arith, front, length-append u (drop end s), length-drop end s);
+  each = λ w h.
+      get_or-append u (drop end s) 0 w (omega (arith, front))
+      ∙ ap (λ (x : List ℕ). get_or x w 0) e
+      ∙ get_or-replicate _ w 0 0 (omega (arith, length-take-le end s l));
 }
-
-pub loop-i-init : goal.loop-i-init
-loop-i-init c = record { within = omega arith; size = λ i. length c.args.table.now; zeros = λ w l. absurd (omega arith) }
-
-pub offset_bounds-table-i : goal.offset_bounds-table-i
-offset_bounds-table-i c = omega arith
-
-pub bounds-table-i : goal.bounds-table-i
-bounds-table-i c = omega arith
-
-pub overflow_add-i : goal.overflow_add-i
-overflow_add-i c = omega arith
-
-pub loop-i-smaller : goal.loop-i-smaller
-loop-i-smaller c = omega arith
-
-pub loop-i-preserved : goal.loop-i-preserved
-loop-i-preserved c = turn _ _ _ _ c.loop-i.invariant (omega arith) (omega arith)
-
-pub shape_of-table : goal.shape_of-table
-shape_of-table c = c.loop-i.invariant.size
+  where
+    front : length u ≡ end
+    front = ap length e ∙ length-replicate _ 0 ∙ length-take-le end s l
 
 pub returns : goal.returns
-returns c = record { size = c.loop-i.invariant.size; each = λ w l. c.loop-i.invariant.zeros w (omega arith) }
+returns c = cleared _ c.args.words.now _ c.requires (c.fill.ensures.after (λ y e. e))

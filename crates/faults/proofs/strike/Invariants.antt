@@ -1,11 +1,6 @@
--- `faults::strike` meets its contract. The loop's invariant: the table is the turned one with the places of the excuses passed. The measure is what is
--- left of the count. Assumes nothing.
-use Prim.Native.Nat.{◌-◌, ◌≤◌}
+-- `faults::strike` meets its contract. The loop's invariant: the table is the turned one with the places of the excuses passed. Assumes nothing.
 use Rattle.faults.proofs.Strikes.{Waives}
 use Rattle.faults.proofs.strike.Given as goal
 
-abbrev pub invariant-loop-i : goal.invariant-loop-i
-invariant-loop-i l = (l.i ≤ l.count) × Waives l.n l.excuses l.i l.initial.table l.table
-
-abbrev pub decreases-loop-i : goal.decreases-loop-i
-decreases-loop-i l = l.count - l.i
+abbrev pub invariant-loop-excuse : goal.invariant-loop-excuse
+invariant-loop-excuse l = Waives l.initial.table.wires l.excuses l.excuse-index l.initial.table.words l.table

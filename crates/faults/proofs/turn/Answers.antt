@@ -1,63 +1,30 @@
 -- `faults::turn` meets its contract, by its invariant. Assumes nothing.
-use mathlib.Core.Path.{refl, ap, ◌∙◌}
-use mathlib.Core.List.{List}
-use Prim.Native.Nat.{ℕ, ◌+◌, ◌-◌, ◌^◌, ◌<◌}
-use native.Mathlib.Omega.{arith}
-use lib.ListN.{length, get_or, set, length-set}
-use lib.Seq.{get_or-set_same, get_or-set_other}
-use borrow.Author.Count.{below_more}
+use mathlib.Core.Path.{◌≡◌, ap, ◌∙◌}
+use mathlib.Core.List.{List, ◌++◌}
+use Prim.Native.Nat.{ℕ, ◌-◌, ◌^◌, ◌≤◌, ◌<◌}
+use Rattle.std.proofs.Common.{arith, rules}
+use lib.ListN.{length, get_or, take, drop, length-append, length-drop, get_or-append}
+use lib.Seq.{length-take-le, get_or-take}
 use Rattle.wires.specs.Wires.{wire}
 use Rattle.wires.proofs.Digits.{wire-not}
-use Rattle.faults.proofs.turn.Invariants.{Inv}
+use Rattle.faults.specs.Table.{Turned}
 use Rattle.faults.proofs.turn.Goals as goal
 
-module _ (end i : ℕ) (s t : List ℕ) (v : Inv end i s t) (l : i < end) (h : i < length t) (small : get_or t i 0 < 2 ^ 64) where
-  one_more : Inv end (i + 1) s (set t i (2 ^ 64 - 1 - get_or t i 0))
-  one_more = record {
-    within = omega arith;
-    size = length-set t i _ ∙ v.size;
-    turned = below_more _ _
-        (λ w k p lp. ap (λ (x : ℕ). wire x p) (get_or-set_other t i w _ 0 (λ e. omega arith)) ∙ v.turned w k p lp)
-        (λ p lp. ap (λ (x : ℕ). wire x p) (get_or-set_same t i _ 0 h)
-        ∙ wire-not 64 (get_or t i 0) p small lp
-        ∙ ap (λ (x : ℕ). 1 - wire x p) (v.kept i (omega arith)));
-    kept = λ w k. get_or-set_other t i w _ 0 (λ e. omega arith) ∙ v.kept w (omega arith);
-  }
-
-pub loop-i-init : goal.loop-i-init
-loop-i-init c = record {
-  within = omega arith;
-  size = λ i. length c.args.table.now;
-  turned = λ w l. absurd (omega arith);
-  kept = λ w l. refl;
+-- the words of s, with u in the place of those below `end`
+turned : (end : ℕ) (s u : List ℕ) → end ≤ length s → ((i : ℕ) → get_or s i 0 < 2 ^ 64) → length u ≡ length (take end s)
+    → ((w : ℕ) → w < end → get_or u w 0 ≡ 2 ^ 64 - 1 - get_or (take end s) w 0) → Turned end s (u ++ drop end s)
+turned end s u l fits e not = record {
+  size = omega (arith, e, front, length-append u (drop end s), length-drop end s);
+  each = λ w p h lp.
+      ap (λ (x : ℕ). wire x p)
+      (get_or-append u (drop end s) 0 w (omega (arith, e, front)) ∙ not w h ∙ ap (λ (x : ℕ). 2 ^ 64 - 1 - x) (get_or-take end s w 0 h))
+      ∙ wire-not 64 (get_or s w 0) p (fits w) lp;
 }
-
-pub offset_bounds-table-i : goal.offset_bounds-table-i
-offset_bounds-table-i c = omega arith
-
-pub bounds-table-i : goal.bounds-table-i
-bounds-table-i c = omega arith
-
-pub offset_bounds-table-i-in-loop-i : goal.offset_bounds-table-i-in-loop-i
-offset_bounds-table-i-in-loop-i c = omega arith
-
-pub bounds-table-i-in-loop-i : goal.bounds-table-i-in-loop-i
-bounds-table-i-in-loop-i c = omega arith
-
-pub overflow_add-i : goal.overflow_add-i
-overflow_add-i c = omega arith
-
-pub loop-i-smaller : goal.loop-i-smaller
-loop-i-smaller c = omega arith
-
-pub loop-i-preserved : goal.loop-i-preserved
-loop-i-preserved c = one_more _ _ _ _ c.loop-i.invariant (omega arith) (omega arith) (omega (arith, c.slice_known-1.given c.loop-i.i))
-
-pub shape_of-table : goal.shape_of-table
-shape_of-table c = c.loop-i.invariant.size
+  where
+    front : length (take end s) ≡ end
+    front = length-take-le end s l
 
 pub returns : goal.returns
-returns c = record {
-  size = c.loop-i.invariant.size;
-  each = λ w p l. c.loop-i.invariant.turned w (omega arith) p;
-}
+returns c =
+    let front = length-take-le c.args.end c.args.words.now c.requires in
+    turned _ c.args.words.now _ c.requires (search rules) c.loop-word.auto.word-items (λ w h. c.loop-word.invariant.turned w (omega arith))

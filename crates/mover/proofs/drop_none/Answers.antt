@@ -13,13 +13,14 @@ pub returns-then-out-kept : goal.returns-then-out-kept
 returns-then-out-kept c = let kept = length c.args.sheet.now - 2 in
     put-no-room (take kept c.args.sheet.now) c.args.out.now (omega (arith, length-take-le kept c.args.sheet.now (omega arith))) c.refused.ensures
 
-pub slice_bounds-write_rows-end : goal.slice_bounds-write_rows-end
-slice_bounds-write_rows-end c = sym (length-take-le _ _ (omega arith))
+pub slice_bounds-write-end : goal.slice_bounds-write-end
+slice_bounds-write-end c = sym (length-take-le _ _ (omega arith))
 
-pub write_rows-requires : goal.write_rows-requires
-write_rows-requires c = front_fits _ _ c.args.out.now c.if-out-kept.false
+pub write-requires : goal.write-requires
+write-requires c = front_fits _ _ c.args.out.now c.if-out-kept.false
 
 pub returns : goal.returns
-returns c = let kept = length c.args.sheet.now - 2 in
-    put-wrote (take kept c.args.sheet.now) c.args.out.now _ (omega (arith, length-take-le kept c.args.sheet.now (omega arith)))
-    (c.succeeded.ensures ∙ ap (success 0) (c.write_rows.ensures.value ∙ zero-add _)) c.write_rows.ensures.buf_after
+returns c =
+    let kept = length c.args.sheet.now - 2 in
+    let end = put-wrote (take kept c.args.sheet.now) c.args.out.now _ (omega (arith, length-take-le kept c.args.sheet.now (omega arith))) (c.succeeded.ensures ∙ ap (success 0) (c.write.ensures.stored.value ∙ zero-add _)) c.write.ensures.stored.out_after in
+    record { outcome = end.outcome; exit_is = grind (arith, end.exit_is, c.write.ensures.same) }

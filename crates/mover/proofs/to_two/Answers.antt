@@ -5,12 +5,12 @@ use Rattle.mover.proofs.Ends.{two-refused, two-taken}
 use Rattle.mover.proofs.to_two.Goals as goal
 
 pub add_none-requires : goal.add_none-requires
-add_none-requires c = let t = job-accepted _ _ _ _ c.read_job-read.ensures.value c.in-Accepted.is in
+add_none-requires c = let t = job-accepted _ _ _ _ c.read_job.ensures.value c.in-Ok.is in
     accepted-short _ _ t.0 t.1
 
-pub returns-in-Accepted : goal.returns-in-Accepted
-returns-in-Accepted c = let t = job-accepted _ _ _ _ c.read_job-read.ensures.value c.in-Accepted.is in
+pub returns-in-Ok : goal.returns-in-Ok
+returns-in-Ok c = let t = job-accepted _ _ _ _ c.read_job.ensures.value c.in-Ok.is in
     two-taken _ _ t.0 _ t.1 c.add_none.ensures
 
-pub returns-in-Refused : goal.returns-in-Refused
-returns-in-Refused c = two-refused _ _ _ (job-refused _ _ _ _ c.read_job-read.ensures.value c.in-Refused.is) c.refused_job.ensures
+pub returns-in-Err : goal.returns-in-Err
+returns-in-Err c = two-refused _ _ _ (job-refused _ _ _ _ c.read_job.ensures.value c.in-Err.is) c.refused_job.ensures

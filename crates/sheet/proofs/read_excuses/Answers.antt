@@ -1,25 +1,37 @@
 -- `sheet::read_excuses` meets its contract: form one has none; in form two their count was refused, or found and then they. Assumes nothing.
-use native.Mathlib.Omega.{arith}
+use Rattle.std.proofs.Common.{rules, sym, arith}
+use Rattle.std.proofs.lemmas.List.{length-take-le}
 use Rattle.steps.proofs.Steps.{found}
 use Rattle.sheet.proofs.Heads.{word-count-bounds}
 use Rattle.sheet.proofs.Excuses.{excuses-one, excuses-stop, excuses-go}
 use Rattle.sheet.proofs.read_excuses.Goals as goal
 
-pub returns-in_default : goal.returns-in_default
-returns-in_default c =
-    let both = excuses-stop c.args.wires c.args.sheet.now c.args.at c.args.masks.now c.args.first _ c.in-Two.is _ c.read_word_count-counted.ensures _ c.in_default.is in
-    record { value = both.0; masks_after = both.1 }
+pub returns-in_err-count-in-Two : goal.returns-in_err-count-in-Two
+returns-in_err-count-in-Two c =
+    let both = excuses-stop c.args.wires c.args.sheet.now c.args.at c.args.masks.now _ c.in-Two.is _ c.read_word_count.ensures _ c.in_err-count-in-Two.was in
+    record { value = rw (sym both.0, c.in_err-count-in-Two.was) (search rules); masks_after = both.1 }
+
+pub slice_bounds-read_rules-end : goal.slice_bounds-read_rules-end
+slice_bounds-read_rules-end c =
+    let few = word-count-bounds _ _ _ _ _ (found _ _ _ _ c.read_word_count.ensures c.in_ok-count-in-Two.was) in
+    omega arith
+
+pub slice_bounds-read_rules-end-in-Two : goal.slice_bounds-read_rules-end-in-Two
+slice_bounds-read_rules-end-in-Two c =
+    let few = word-count-bounds _ _ _ _ _ (found _ _ _ _ c.read_word_count.ensures c.in_ok-count-in-Two.was) in
+    sym (length-take-le c.in_ok-count-in-Two.count c.args.masks.now (omega arith))
 
 pub read_rules-requires : goal.read_rules-requires
-read_rules-requires c = let few = word-count-bounds _ _ _ _ _ (found _ _ _ _ c.read_word_count-counted.ensures c.in-Got.is) in
-    (omega arith, omega (arith, c.term_limit.ensures))
+read_rules-requires c =
+    let few = word-count-bounds _ _ _ _ _ (found _ _ _ _ c.read_word_count.ensures c.in_ok-count-in-Two.was) in
+    (omega (arith, length-take-le c.in_ok-count-in-Two.count c.args.masks.now (omega arith)), omega (arith, c.term_limit.ensures))
 
 pub returns-in-One : goal.returns-in-One
 returns-in-One c =
-    let both = excuses-one c.args.wires c.args.sheet.now c.args.at c.args.masks.now c.args.first _ c.in-One.is in
+    let both = excuses-one c.args.wires c.args.sheet.now c.args.at c.args.masks.now _ c.in-One.is in
     record { value = both.0; masks_after = both.1 }
 
-pub returns-in-Got : goal.returns-in-Got
-returns-in-Got c =
-    let both = excuses-go c.args.wires c.args.sheet.now c.args.at c.args.masks.now c.args.first _ c.in-Two.is _ c.read_word_count-counted.ensures _ _ c.in-Got.is _ c.term_limit.ensures _ _ c.read_rules.ensures.value c.read_rules.ensures.masks_after in
+pub returns-in_ok-count-in-Two : goal.returns-in_ok-count-in-Two
+returns-in_ok-count-in-Two c =
+    let both = excuses-go c.args.wires c.args.sheet.now c.args.at c.args.masks.now _ c.in-Two.is _ c.read_word_count.ensures _ _ c.in_ok-count-in-Two.was c.requires.1 _ c.term_limit.ensures _ _ c.read_rules.ensures.value c.read_rules.ensures.masks_after in
     record { value = both.0; masks_after = both.1 }

@@ -8,23 +8,23 @@ use Rattle.solver.specs.Solved.{refused}
 use Rattle.solver.proofs.Boards.{taken-no-room, taken-solved}
 use Rattle.solver.proofs.solve.Goals as goal
 
-pub returns-then-answer-lt-LONGEST : goal.returns-then-answer-lt-LONGEST
-returns-then-answer-lt-LONGEST c = let t = taken _ _ (replicate 320 0) refl _ _ _ c.read_job-read.ensures.value c.in-Accepted.is c.read_job-read.ensures.masks_after in
+pub returns-in-Ok : goal.returns-in-Ok
+returns-in-Ok c = let t = taken _ _ (replicate 320 0) refl _ _ _ c.read_job.ensures.value c.in-Ok.is c.read_job.ensures.masks_after in
     taken-no-room t c.if-answer-lt-LONGEST.true c.refused.ensures
 
 pub slice_bounds-solve_board-end : goal.slice_bounds-solve_board-end
-slice_bounds-solve_board-end c = sym (ap length c.read_job-read.ensures.masks_after ∙ stored-length _ _ (replicate 320 0) refl)
+slice_bounds-solve_board-end c = sym (ap length c.read_job.ensures.masks_after ∙ stored-length _ _ (replicate 320 0) refl)
 
 pub solve_board-requires : goal.solve_board-requires
-solve_board-requires c = let t = taken _ _ (replicate 320 0) refl _ _ _ c.read_job-read.ensures.value c.in-Accepted.is c.read_job-read.ensures.masks_after in
+solve_board-requires c = let t = taken _ _ (replicate 320 0) refl _ _ _ c.read_job.ensures.value c.in-Ok.is c.read_job.ensures.masks_after in
     record {
       sized = t.sized;
       longest_in_bounds = omega arith;
     }
 
-pub returns-else-answer-lt-LONGEST : goal.returns-else-answer-lt-LONGEST
-returns-else-answer-lt-LONGEST c = let t = taken _ _ (replicate 320 0) refl _ _ _ c.read_job-read.ensures.value c.in-Accepted.is c.read_job-read.ensures.masks_after in
+pub returns-in-Ok-2 : goal.returns-in-Ok-2
+returns-in-Ok-2 c = let t = taken _ _ (replicate 320 0) refl _ _ _ c.read_job.ensures.value c.in-Ok.is c.read_job.ensures.masks_after in
     taken-solved t c.if-answer-lt-LONGEST.false c.solve_board.ensures
 
-pub returns-in-Refused : goal.returns-in-Refused
-returns-in-Refused c = refused _ (job-refused _ _ _ _ c.read_job-read.ensures.value c.in-Refused.is) c.refused_job.ensures refl
+pub returns-in-Err : goal.returns-in-Err
+returns-in-Err c = refused _ (job-refused _ _ _ _ c.read_job.ensures.value c.in-Err.is) c.refused_job.ensures refl

@@ -1,44 +1,25 @@
 -- `spread::spread` meets its contract, by its invariant. Assumes nothing.
-use Prim.Native.Nat.{◌+◌, ◌*◌, ◌<◌}
 use native.Mathlib.Omega.{arith}
-use mathlib.Core.Path.{◌∙◌}
-use lib.ListN.{length-set}
-use Rattle.spread.proofs.Front.{front-start, front-ask, front-turn, front_below, front-done}
+use Rattle.spread.proofs.Front.{front-start, front-turn, front_below, front-done}
 use Rattle.spread.proofs.spread.Goals as goal
-use Rattle.spread.proofs.spread.Goals.{In-loop-head}
-
-head-below : (c : In-loop-head) → c.loop-head.head < 2 * (c.args.shape.rows_a + c.args.shape.rows_b)
-head-below c = front_below c.loop-head.invariant c.loop-head-test.true
 
 pub loop-head-init : goal.loop-head-init
-loop-head-init c = front-start c.requires.inside c.requires.room c.clear.auto.reached c.clear.ensures
+loop-head-init c =
+    let a = c.args.grid.now.sound.sizes.few_a in
+    let b = c.args.grid.now.sound.sizes.few_b in
+    front-start c.args.store.now c.requires.inside (record { reached = omega (arith, a, b); queue = omega (arith, a, b); from = omega (arith, a, b); by = omega (arith, a, b) }) c.fill.new.self (c.fill.ensures.after (λ y e. e))
 
-pub offset_bounds-queue-head : goal.offset_bounds-queue-head
-offset_bounds-queue-head c = omega (arith, head-below c, c.requires.sound)
+pub offset_bounds-store-head : goal.offset_bounds-store-head
+offset_bounds-store-head c = omega (arith, front_below c.loop-head.invariant c.loop-head-test.true, c.args.grid.now.sound)
 
-pub bounds-queue-head : goal.bounds-queue-head
-bounds-queue-head c = omega (arith, (front_below c.loop-head.invariant c.loop-head-test.true), c.loop-head.invariant.reach.room.queue)
-
-pub looks-tail-requires : goal.looks-tail-requires
-looks-tail-requires c = front-ask c.loop-head.invariant c.requires.sound c.loop-head-test.true
+pub bounds-store-head : goal.bounds-store-head
+bounds-store-head c = omega (arith, front_below c.loop-head.invariant c.loop-head-test.true, c.args.grid.now.sound)
 
 pub loop-head-smaller : goal.loop-head-smaller
 loop-head-smaller c = omega (arith, (front_below c.loop-head.invariant c.loop-head-test.true))
 
 pub loop-head-preserved : goal.loop-head-preserved
-loop-head-preserved c = front-turn c.loop-head.invariant c.loop-head-test.true c.looks-tail.ensures
-
-pub shape_of-reached : goal.shape_of-reached
-shape_of-reached c = c.loop-head.invariant.same.reached ∙ simp length-set c.clear.auto.reached
-
-pub shape_of-queue : goal.shape_of-queue
-shape_of-queue c = c.loop-head.invariant.same.queue ∙ simp length-set
-
-pub shape_of-from : goal.shape_of-from
-shape_of-from c = c.loop-head.invariant.same.from
-
-pub shape_of-by : goal.shape_of-by
-shape_of-by c = c.loop-head.invariant.same.by
+loop-head-preserved c = front-turn c.loop-head.invariant c.loop-head-test.true c.looks.ensures
 
 pub returns : goal.returns
 returns c = front-done c.loop-head.invariant c.loop-head-test.false

@@ -1,26 +1,21 @@
 -- `text::print_tables` meets its contract: five pieces make the text of the tables. Assumes nothing.
 use native.Mathlib.Omega.{arith}
-use Rattle.text.proofs.Tables.{there, first-asks, second-asks, last-room, tables-printed}
+use Rattle.text.proofs.Tables.{first-asks, second-asks, middle-room, last-room, tables-printed}
 use Rattle.text.proofs.print_tables.Goals as goal
 
-pub overflow_add-last : goal.overflow_add-last
-overflow_add-last c = omega (arith, there _ c.args.out.now c.requires _ _ c.word_at-rows_a.ensures c.word_at-rows_b.ensures)
+pub write_digits-requires : goal.write_digits-requires
+write_digits-requires c = first-asks _ _ c.requires _ _ c.word_at-rows_a.ensures c.word_at-rows_b.ensures c.write.ensures.stored
 
-pub write_digits-after_a-requires : goal.write_digits-after_a-requires
-write_digits-after_a-requires c =
-    let both = first-asks _ c.args.out.now c.requires _ _ c.word_at-rows_a.ensures c.word_at-rows_b.ensures _ _ c.write_rows-at_a.ensures.buf_after c.write_rows-at_a.ensures.value in
-    record { rows_in_bounds = both.0; small = both.1 }
+pub write-requires-2 : goal.write-requires-2
+write-requires-2 c = middle-room _ _ c.requires _ _ c.word_at-rows_a.ensures c.word_at-rows_b.ensures c.write.ensures.stored c.write_digits.ensures.stored
 
-pub slice_bounds-write_digits-end-2 : goal.slice_bounds-write_digits-end-2
-slice_bounds-write_digits-end-2 c = omega (arith, there _ c.args.out.now c.requires _ _ c.word_at-rows_a.ensures c.word_at-rows_b.ensures)
+pub write_digits-requires-2 : goal.write_digits-requires-2
+write_digits-requires-2 c = second-asks _ _ c.requires _ _ c.word_at-rows_a.ensures c.word_at-rows_b.ensures c.write.ensures.stored c.write_digits.ensures.stored c.write-2.ensures.stored
 
-pub write_digits-after_b-requires : goal.write_digits-after_b-requires
-write_digits-after_b-requires c =
-    let both = second-asks _ c.args.out.now c.requires _ _ c.word_at-rows_a.ensures c.word_at-rows_b.ensures _ _ c.write_rows-at_a.ensures.buf_after c.write_rows-at_a.ensures.value _ _ _ _ c.write_digits-after_a.ensures.out_after c.write_digits-after_a.ensures.value c.write_rows-at_b.ensures.buf_after c.write_rows-at_b.ensures.value in
-    record { rows_in_bounds = both.0; small = both.1 }
-
-pub write_byte-requires : goal.write_byte-requires
-write_byte-requires c = last-room _ c.args.out.now c.requires _ _ c.word_at-rows_a.ensures c.word_at-rows_b.ensures _ _ c.write_rows-at_a.ensures.buf_after c.write_rows-at_a.ensures.value _ _ _ _ c.write_digits-after_a.ensures.out_after c.write_digits-after_a.ensures.value c.write_rows-at_b.ensures.buf_after c.write_rows-at_b.ensures.value _ _ c.write_digits-after_b.ensures.out_after c.write_digits-after_b.ensures.value
+pub write-requires-3 : goal.write-requires-3
+write-requires-3 c = last-room _ _ c.requires _ _ c.word_at-rows_a.ensures c.word_at-rows_b.ensures c.write.ensures.stored c.write_digits.ensures.stored c.write-2.ensures.stored c.write_digits-2.ensures.stored
 
 pub returns : goal.returns
-returns c = tables-printed _ c.args.out.now c.requires _ _ c.word_at-rows_a.ensures c.word_at-rows_b.ensures _ _ c.write_rows-at_a.ensures.buf_after c.write_rows-at_a.ensures.value _ _ _ _ c.write_digits-after_a.ensures.out_after c.write_digits-after_a.ensures.value c.write_rows-at_b.ensures.buf_after c.write_rows-at_b.ensures.value _ _ c.write_digits-after_b.ensures.out_after c.write_digits-after_b.ensures.value _ _ c.write_byte.ensures.out_after c.write_byte.ensures.value
+returns c =
+    let all = tables-printed _ _ c.requires _ _ c.word_at-rows_a.ensures c.word_at-rows_b.ensures c.write.ensures.stored c.write_digits.ensures.stored c.write-2.ensures.stored c.write_digits-2.ensures.stored c.write-3.ensures.stored in
+    record { long = all.long; bytes = grind (arith, all.bytes, c.write.ensures.same, c.write_digits.ensures.same, c.write-2.ensures.same, c.write_digits-2.ensures.same, c.write-3.ensures.same) }

@@ -4,21 +4,20 @@ use native.Mathlib.Omega.{arith}
 use Rattle.text.specs.Text.{no_room}
 use Rattle.text.proofs.Ends.{tables-ask, walk-ask, tables-ends, walk_ends, refused-ends}
 use Rattle.text.proofs.text.Goals as goal
+use Rattle.text.proofs.text.Goals.{in-20, in-21, in_default}
 
 pub returns-then-out-lt-LONGEST_TEXT : goal.returns-then-out-lt-LONGEST_TEXT
 returns-then-out-lt-LONGEST_TEXT c = no_room c.if-out-lt-LONGEST_TEXT.true c.refused.ensures refl
 
 pub print_tables-written-requires : goal.print_tables-written-requires
-print_tables-written-requires c = tables-ask _ _ _ _ _ (omega arith) c.solve-o.ensures _ (omega (arith, c.if-out-lt-LONGEST_TEXT.false)) c.if-code-eq20.true
-
-pub returns-then-code-eq20 : goal.returns-then-code-eq20
-returns-then-code-eq20 c = tables-ends _ _ _ _ _ (omega arith) c.solve-o.ensures _ (omega (arith, c.if-out-lt-LONGEST_TEXT.false)) _ _ _ c.succeeded.ensures c.if-code-eq20.true c.print_tables-written.ensures
+print_tables-written-requires c = tables-ask _ _ _ _ _ (omega arith) c.solve-o.ensures _ c.if-out-lt-LONGEST_TEXT.false c.in-20.is
 
 pub print_walk-written-requires : goal.print_walk-written-requires
-print_walk-written-requires c = walk-ask _ _ _ _ _ (omega arith) c.solve-o.ensures _ (omega (arith, c.if-out-lt-LONGEST_TEXT.false)) c.if-code-eq21.true
-
-pub returns-then-code-eq21 : goal.returns-then-code-eq21
-returns-then-code-eq21 c = walk_ends _ _ _ _ _ (omega arith) c.solve-o.ensures _ (omega (arith, c.if-out-lt-LONGEST_TEXT.false)) _ _ _ c.succeeded-then-code-eq21.ensures c.if-code-eq21.true c.print_walk-written.ensures
+print_walk-written-requires c = walk-ask _ _ _ _ _ (omega arith) c.solve-o.ensures _ c.if-out-lt-LONGEST_TEXT.false c.in-21.is
 
 pub returns : goal.returns
-returns c = refused-ends _ _ _ _ _ (omega arith) c.solve-o.ensures _ (omega (arith, c.if-out-lt-LONGEST_TEXT.false)) _ _ _ c.succeeded-2.ensures c.if-code-eq20.false c.if-code-eq21.false c.print_refused-written.ensures
+returns c = elim c.match-o.branch [
+  | in-20 w ↦ tables-ends _ _ _ _ _ (omega arith) c.solve-o.ensures _ c.if-out-lt-LONGEST_TEXT.false _ _ _ c.succeeded.ensures w.in-20.is (rw (w.out-is, w.written-is) w.print_tables-written.ensures)
+  | in-21 w ↦ walk_ends _ _ _ _ _ (omega arith) c.solve-o.ensures _ c.if-out-lt-LONGEST_TEXT.false _ _ _ c.succeeded.ensures w.in-21.is (rw (w.out-is, w.written-is) w.print_walk-written.ensures)
+  | in_default w ↦ refused-ends _ _ _ _ _ (omega arith) c.solve-o.ensures _ c.if-out-lt-LONGEST_TEXT.false _ _ _ c.succeeded.ensures (λ e. omega arith) (λ e. omega arith) (rw (w.out-is, w.written-is) w.print_refused-written.ensures)
+]

@@ -1,13 +1,8 @@
--- `text::write_digits` meets its contract. The invariant: the run at the end is the buffer as it stands with the digits that are left stored from here on. The measure is the count of those. Assumes nothing.
-use Prim.Native.Nat.{◌+◌, ◌-◌, ◌≤◌}
-use mathlib.Core.Path.{◌≡◌}
-use lib.ListN.{length, drop}
-use lib.Seq.{sets}
+-- `text::write_digits` meets its contract. The invariant: the digits of the rows so far are written. Assumes nothing.
+use Rattle.std.proofs.Common.{take}
 use Rattle.text.specs.Text.{digits}
+use Rattle.answer.specs.Page.{Wrote}
 use Rattle.text.proofs.write_digits.Given as goal
 
-abbrev pub invariant-loop-i : goal.invariant-loop-i
-invariant-loop-i l = (l.i ≤ length l.rows) × (length l.out ≡ length l.initial.out) × (sets l.initial.out l.at (digits l.rows) ≡ sets l.out (l.at + l.i) (digits (drop l.i l.rows)))
-
-abbrev pub decreases-loop-i : goal.decreases-loop-i
-decreases-loop-i l = length l.rows - l.i
+abbrev pub invariant-loop-row : goal.invariant-loop-row
+invariant-loop-row l = Wrote l.initial.page (digits (take l.row-index l.rows)) l.page

@@ -1,10 +1,10 @@
 -- `widener::widen_both` meets its contract: the checker's outcome, then the other causes of refusal in their order, then the widened sheet. Assumes nothing.
 use mathlib.Core.Path.{sym, ◌∙◌}
+use Rattle.std.proofs.Math.Logic.{∥∥₁_elim}
+use Rattle.std.proofs.Props.{props}
+use Rattle.widener.specs.Writing.{Wide}
 use Rattle.widener.proofs.Ends.{ends-walk, ends-checked, wide-asks, ends-asks, ends-room, ends-written}
 use Rattle.widener.proofs.widen_both.Goals as goal
-
-pub check_answer-checked-requires : goal.check_answer-checked-requires
-check_answer-checked-requires c = c.requires.taken.1.sized
 
 pub returns-then-checked-eq21 : goal.returns-then-checked-eq21
 returns-then-checked-eq21 c = λ P Q tp tq.
@@ -34,10 +34,12 @@ returns-then-out-lt-LONGEST c = λ P Q tp tq.
     c.refused-then-out-lt-LONGEST.ensures
 
 pub write_wide-written-requires : goal.write_wide-written-requires
-write_wide-written-requires c = wide-asks _ _ _ _ _ _ _ _ _ _ c.requires.taken.1 c.requires.taken_2.1
-    c.check_answer-checked.ensures
-    c.if-checked-ne20.false
-    c.if-out-lt-LONGEST.false
+write_wide-written-requires c =
+    ∥∥₁_elim c.args.p.now.taken is_prop (λ p. ∥∥₁_elim c.args.q.now.taken is_prop (λ q.
+    wide-asks _ _ _ _ _ _ _ _ _ _ p.1 q.1 c.check_answer-checked.ensures c.if-checked-ne20.false c.if-out-lt-LONGEST.false))
+  where
+    is_prop : IsProp (Wide c.args.p.now.head c.args.q.now.head c.args.sheet.now c.args.out.now)
+    is_prop = Prim.hlevel props
 
 pub returns : goal.returns
 returns c = λ P Q tp tq.

@@ -1,0 +1,12 @@
+-- `scan::Store::looks` meets its contract. The invariant of its loop is `Scan`: the combinations that show the row, up to the part at hand, have been
+-- looked at. The measure is how many parts are left.
+-- Assumes nothing.
+use Rattle.scan.proofs.Scan.{Scan, left}
+use Rattle.grid.specs.Held.{held}
+use Rattle.scan.proofs.Store.looks.Given as goal
+
+abbrev pub invariant-loop-part : goal.invariant-loop-part
+invariant-loop-part l = Scan (held l.grid) l.initial.self l.initial.self.tail l.claim.0 l.unseen l.lowest l.self l.self.tail l.part
+
+abbrev pub decreases-loop-part : goal.decreases-loop-part
+decreases-loop-part l = left l.grid.shape.wires l.unseen l.part

@@ -1,5 +1,0 @@
--- `text::write_decimal` calls itself for the number's digits but the last, so the number falls. Assumes nothing.
-use Rattle.text.proofs.+write_decimal.Given as goal
-
-abbrev pub decreases-write_decimal : goal.decreases-write_decimal
-decreases-write_decimal l = l.n
