@@ -24,7 +24,8 @@ pub enum AnswerKind {
     Walk(u32),
 }
 
-// A two-byte count that has to be `count`.
+// A two-byte count that has to be `count`. This and the next two differ in their test alone; a test handed over as a closure would
+// make the contract longer than the function.
 pub fn read_exactly(sheet: &[u8], at: usize, count: u32) -> Read
     ensures { result ≡ as_read (exactly count sheet.now at) }
 {

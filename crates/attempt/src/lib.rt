@@ -37,7 +37,8 @@ fn merge(reached: &[u8], state: &mut [u8])
 }
 
 // Spreads from `start`. A good spread settles the rows that it reached, and the answer is `None`; else half of a walk, from
-// `start` to its opposite, is written to `walk` from `at` on, and the answer is the place after it.
+// `start` to its opposite, is written to `walk` from `at` on, and the answer is the place after it. The state and the scratch are two
+// lent buffers that the solver reads apart, so a struct of them is no plainer.
 pub fn attempt(
     grid: &Grid,
     start: Claim,
@@ -57,6 +58,14 @@ pub fn attempt(
         return None;
     }
     let mut page = Page { bytes: walk, at };
-    write_back(store, start, target, &mut page);
+    write_back(
+        store.tail,
+        &store.queue,
+        &store.from,
+        &store.by,
+        start,
+        target,
+        &mut page,
+    );
     Some(page.at)
 }

@@ -72,7 +72,7 @@ pub fn or_block(words: &mut [u64; WORDS], w: usize, pattern: u64, rows: u64)
 }
 
 // Does so with each block of 4 words whose distance from the block `base` is a part of `free`, from the last down:
-// the next part of `free` below `sub` is `(sub - 1) & free`.
+// the next part of `free` below `sub` is `(sub - 1) & free`, so no range counts them.
 #[tactic(auto, using(crate::proofs::Parts::part_le))]
 pub fn or_blocks(words: &mut [u64; WORDS], base: u32, free: u32, pattern: u64, rows: u64)
     requires { base + free < 256 }

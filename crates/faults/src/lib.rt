@@ -50,7 +50,7 @@ pub fn fill_faults(table: &mut Table, rules: &[u32])
 }
 
 // Sets the digit of each place whose combination the excuse excuses: those where every plain term's wire is 1 and every
-// negated term's is 0.
+// negated term's is 0. It shares `fill_cube` with `fill_rule`; which digits are set is what each of them says.
 pub fn fill_excuse(table: &mut Table, excuse: u32)
     requires { excuse < 2 ^ (2 * table.old.wires) }
     ensures { Waived excuse table.old table.new }

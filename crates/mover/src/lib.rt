@@ -68,7 +68,7 @@ pub fn to_two(sheet: &[u8], out: &mut [u8]) -> Outcome
     }
 }
 
-// Moves a sheet of form two back to form one, where it has no excuses.
+// Moves a sheet of form two back to form one, where it has no excuses. Not one function with `to_two`, by which nothing is lost.
 pub fn to_one(sheet: &[u8], out: &mut [u8]) -> Outcome
     ensures { Ended (moving One sheet.now out.old) result out.new }
 {

@@ -1,6 +1,6 @@
 // The C face: functions on numbers and byte slices for the bench's host program, each outcome as one 64-bit number
 // (document 01, "Bench use"). A slice passes as a pointer and a length; a null pointer with length 0 is an empty slice.
-// What each call does is said below; only the packing is of this crate.
+// What each call does is said below; only the packing is of this crate. C has these names, one for each form.
 #![tactic(auto)]
 
 ghost use Rattle.std.specs.Prelude.{◌≡◌, length};

@@ -12,8 +12,7 @@ use std::io::{Read, Write};
 use text::LONGEST_TEXT;
 
 // Reads a job sheet of the form to its end, or its first `ROOM` bytes where it is longer, and prints what `text` says of these
-// bytes. The only errors are those of a read or a write that failed; where a read failed nothing is printed. What is asked of
-// `ROOM` holds of the length of every array.
+// bytes. The only errors are those of a read or a write that failed. What is asked of `ROOM` holds of the length of every array.
 pub fn print_answer<const ROOM: usize, R: Read, W: Write>(
     form: Form,
     from: &mut R,

@@ -11,8 +11,8 @@ use grid::Grid;
 use scan::{CLAIMS, Store};
 use wires::Claim;
 
-// What the state holds for a row that is not settled; for a settled one it holds the row's bit. Numbers and no enum, since the
-// bits go to the answer sheet as they stand, in one piece.
+// What the state holds for a row that is not settled; for a settled one it holds the row's bit. Numbers and no enum, since the bits
+// go to the answer sheet as they stand, in one piece.
 pub const UNSETTLED: u8 = 2;
 
 // The work on one row. Answers `None` where it is settled, from its 0 claim or, where that spread fails, from its 1 claim; where

@@ -50,16 +50,25 @@ pub fn opposite(c: Claim) -> Claim
 }
 
 // Follows the parents from `target` back to `start`, and writes an entry of a walk for each: the opposite of the claim, and
-// the combination by which it was reached.
-pub fn write_back(store: &Store, start: Claim, target: Claim, page: &mut Page)
-    requires { Backs store.now.queue store.now.from store.now.by store.now.tail start.0 target.0 page.old.at page.old.bytes.now }
-    ensures { Written store.now.from store.now.by store.now.tail start.0 target.0 page.old page.new }
+// the combination by which it was reached. The parents lead the way, so no range counts it. It takes the arrays of a store apart,
+// for any number of claims; of the queue and its first `r` entries only the promise speaks.
+pub fn write_back(
+    r: usize,
+    queue: &[u16],
+    from: &[u16],
+    by: &[u16],
+    start: Claim,
+    target: Claim,
+    page: &mut Page,
+)
+    requires { Backs queue.now from.now by.now r start.0 target.0 page.old.at page.old.bytes.now }
+    ensures { Written from.now by.now r start.0 target.0 page.old page.new }
 {
     let s = start.0;
     let mut c = target.0;
     while c != s {
         let k = c as usize;
-        page.write_entry(opposite(Claim(c)), Combination(store.by[k]));
-        c = store.from[k];
+        page.write_entry(opposite(Claim(c)), Combination(by[k]));
+        c = from[k];
     }
 }

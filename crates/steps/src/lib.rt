@@ -67,7 +67,8 @@ impl Refusal {
     }
 }
 
-// An outcome is five numbers. Successes have sheet and place 0; refusals write 0 bytes; only code 10 names a rule.
+// An outcome is five numbers. Successes have sheet and place 0; refusals write 0 bytes; only code 10 names a rule. The code and
+// the sheet are numbers and no enums, since document 01 and C have these numbers.
 #[derive(Clone, Copy)]
 pub struct Outcome {
     pub code: u8,
@@ -129,7 +130,8 @@ pub fn refused_answer(w: Refusal) -> Outcome
     refused(w.answer_code(), 2, w.place())
 }
 
-// What a reading step finds: a number with the next place, or the refusal.
+// What a reading step finds: a number with the next place, or the refusal. A step takes the sheet and a place, since document 01
+// wants this core under the Reader of `sheet`, which holds both.
 pub type Read = Result<(u32, usize), Refusal>;
 
 // A byte.
@@ -170,7 +172,7 @@ pub fn read_count(sheet: &[u8], at: usize, most: u32) -> Read
     within(read_byte(sheet, at), at, most)
 }
 
-// A count of two bytes, at most `most`, judged once both are there.
+// A count of two bytes, at most `most`, judged once both are there. What it shares with `read_count` is `within`.
 pub fn read_word_count(sheet: &[u8], at: usize, most: u32) -> Read
     ensures { result ≡ as_read (word_count most sheet.now at) }
 {

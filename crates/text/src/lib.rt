@@ -24,7 +24,7 @@ pub const LONGEST_TEXT: usize = 20465;
 // The length of the longest line of an outcome's numbers.
 pub const LONGEST_NUMBERS: usize = 71;
 
-// Two bytes of a sheet, low byte first.
+// Two bytes of a sheet, low byte first, as a place or a number to print; the checker's like tells a claim or a combination.
 fn word_at(sheet: &[u8], at: usize) -> usize
     requires { at + 2 ≤ length sheet.now }
     ensures { result ≡ word_at sheet.now at }

@@ -42,7 +42,7 @@ pub fn row_shown(seen: u32, a: u32) -> u32
 }
 
 // The lowest combination that shows the row `row` to a cell that sees the wires of `seen`: the row's digits go to the seen wires,
-// the lowest first, and every other wire has 0. The same loop as in `row_shown`.
+// the lowest first, and every other wire has 0. The mask counts down, and no index. The same loop as in `row_shown`.
 pub fn row_placed(seen: u32, row: u32) -> u32
     ensures { (n : ℕ) → seen < 2 ^ n → result ≡ placed n seen row }
 {

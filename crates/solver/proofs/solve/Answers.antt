@@ -10,7 +10,7 @@ use Rattle.solver.proofs.solve.Goals as goal
 
 pub returns-in-Ok : goal.returns-in-Ok
 returns-in-Ok c = let t = taken _ _ (replicate 320 0) refl _ _ _ c.read_job.ensures.value c.in-Ok.is c.read_job.ensures.masks_after in
-    taken-no-room t c.if-answer-lt-LONGEST.true c.refused.ensures
+    taken-no-room t (omega arith) c.refused.ensures
 
 pub slice_bounds-solve_board-end : goal.slice_bounds-solve_board-end
 slice_bounds-solve_board-end c = sym (ap length c.read_job.ensures.masks_after ∙ stored-length _ _ (replicate 320 0) refl)
@@ -24,7 +24,7 @@ solve_board-requires c = let t = taken _ _ (replicate 320 0) refl _ _ _ c.read_j
 
 pub returns-in-Ok-2 : goal.returns-in-Ok-2
 returns-in-Ok-2 c = let t = taken _ _ (replicate 320 0) refl _ _ _ c.read_job.ensures.value c.in-Ok.is c.read_job.ensures.masks_after in
-    taken-solved t c.if-answer-lt-LONGEST.false c.solve_board.ensures
+    taken-solved t (omega arith) c.solve_board.ensures
 
 pub returns-in-Err : goal.returns-in-Err
 returns-in-Err c = refused _ (job-refused _ _ _ _ c.read_job.ensures.value c.in-Err.is) c.refused_job.ensures refl

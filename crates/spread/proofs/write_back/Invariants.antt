@@ -5,7 +5,7 @@ use Rattle.spread.proofs.Back.{Back}
 use Rattle.spread.proofs.write_back.Given as goal
 
 abbrev pub invariant-loop-c : goal.invariant-loop-c
-invariant-loop-c l = Back l.store.queue l.store.from l.store.by l.store.tail l.s l.initial.c l.initial.page l.page l.c
+invariant-loop-c l = Back l.queue l.from l.by l.r l.s l.initial.c l.initial.page l.page l.c
 
 abbrev pub decreases-loop-c : goal.decreases-loop-c
-decreases-loop-c l = l.initial.page.at + 4 * l.store.tail - l.page.at
+decreases-loop-c l = l.initial.page.at + 4 * l.r - l.page.at
