@@ -1,6 +1,6 @@
 -- Digits and tables written to a buffer.
 --     digit_room, digit_written, digits_all    a turn of the loop that writes a digit for each row, and its end
---     printed                     a run of stores from place 0 prints its text
+--     printed                     a text that is written from the front on is printed
 --     first-asks, second-asks     what the writer of digits asks of each table that stands in a sheet
 --     middle-room, last-room      there is room for the line between them, and for the last line feed
 --     tables-printed              the five pieces are the text of the tables
@@ -13,12 +13,11 @@ use lib.ListN.{length, get_or, take, drop, length-append, length-drop, length-ma
 use lib.Seq.{length-sets, length-take-le, take_all}
 use Rattle.board.specs.Places.{word_at}
 use Rattle.std.proofs.lemmas.List.{map_push, take_more}
-use Rattle.steps.proofs.Runs.{at_front}
 use Rattle.text.specs.Text.{digits, head_a, head_b, tables_text}
 use Rattle.answer.specs.declared.page.Page.{Page}
-use Rattle.answer.specs.Page.{Stored, Room, Wrote}
+use Rattle.answer.specs.Page.{Room, Wrote}
 use Rattle.text.specs.Printing.{Small, Prints, TablesAsk, tables_of}
-use Rattle.answer.proofs.Pieces.{both, both_stored, first_fits, next_fits}
+use Rattle.answer.proofs.Pieces.{both, first_room, next_room, from_front}
 
 digits-length : (xs : List ℕ) → length (digits xs) ≡ length xs
 digits-length xs = length-map xs (λ x. 48 + x)
@@ -36,11 +35,11 @@ module _ {p q : Page} (xs : List ℕ) (i : ℕ) (x : Wrote p (digits (take i xs)
   pub digits_all : length xs ≤ i → Wrote p (digits xs) q
   digits_all h = subst (λ (t : List ℕ). Wrote p (digits t) q) (take_all i xs h) x
 
-pub printed : (t : List ℕ) {l exit : List ℕ} {r : ℕ} → 0 + length t ≤ length l → Stored l 0 t exit r → Prints t l exit r
-printed t {l} fits x = record { long = omega (arith, x.value); bytes = x.out_after ∙ at_front l t (omega (arith, fits)) }
+pub printed : {p q : Page} (t : List ℕ) → p.at ≡ 0 → Room p t → Wrote p t q → {exit : List ℕ} → exit ≡ q.bytes.now → Prints t p.bytes.now exit q.at
+printed t start fits x same = record { long = omega (arith, x.stored.value); bytes = same ∙ from_front start fits x }
 
 -- the two tables of a sheet, of a and b rows
-module _ (s l : List ℕ) (ask : TablesAsk s l) (a b : ℕ) (ea : a ≡ word_at s 0) (eb : b ≡ word_at s (2 + a)) where
+module _ (s : List ℕ) (p : Page) (start : p.at ≡ 0) (ask : TablesAsk s p.bytes.now) (a b : ℕ) (ea : a ≡ word_at s 0) (eb : b ≡ word_at s (2 + a)) where
   abbrev xs : List ℕ
   xs = take (2 + a - 2) (drop 2 s)
 
@@ -87,53 +86,44 @@ module _ (s l : List ℕ) (ask : TablesAsk s l) (a b : ℕ) (ea : a ≡ word_at 
   abbrev t₄ : List ℕ
   t₄ = t₃ ++ digits ys
 
-  fits₅ : 0 + length (tables_text xs ys) ≤ length l
+  fits₅ : Room p (tables_text xs ys)
   fits₅ =
       let long : length (tables_text xs ys) ≡ 9 + length (digits xs) + 3 + length (digits ys) + 1 = simp length-append (omega arith) in
       omega (arith, digits-length xs, digits-length ys, xs-length, ys-length, few_a, few_b, ask.room)
 
-  fits₄ : 0 + length t₄ ≤ length l
-  fits₄ = first_fits l 0 t₄ (10 ∷ []) fits₅
+  fits₄ : Room p t₄
+  fits₄ = first_room p t₄ (10 ∷ []) fits₅
 
-  fits₃ : 0 + length t₃ ≤ length l
-  fits₃ = first_fits l 0 t₃ (digits ys) fits₄
+  fits₃ : Room p t₃
+  fits₃ = first_room p t₃ (digits ys) fits₄
 
-  fits₂ : 0 + length t₂ ≤ length l
-  fits₂ = first_fits l 0 t₂ head_b fits₃
+  fits₂ : Room p t₂
+  fits₂ = first_room p t₂ head_b fits₃
 
-  module _ {l₁ : List ℕ} {m₁ : ℕ} (x₁ : Stored l 0 head_a l₁ m₁) where
-    pub first-asks : record { room : m₁ + length (digits xs) ≤ length l₁; small : Small xs }
+  module _ {p₁ : Page} (x₁ : Wrote p head_a p₁) where
+    pub first-asks : record { room : Room p₁ (digits xs); small : Small xs }
     first-asks = record {
-      room = next_fits l 0 head_a (digits xs) fits₂ x₁;
+      room = next_room x₁ (digits xs) fits₂;
       small = subst Small (sym xs-is) ask.small_a;
     }
 
-    module _ {l₂ : List ℕ} {m₂ : ℕ} (x₂ : Stored l₁ m₁ (digits xs) l₂ m₂) where
-      two_stored : Stored l 0 t₂ l₂ m₂
-      two_stored = both_stored l 0 head_a (digits xs) x₁ x₂
+    module _ {p₂ : Page} (x₂ : Wrote p₁ (digits xs) p₂) where
+      pub middle-room : Room p₂ head_b
+      middle-room = next_room (both x₁ x₂) head_b fits₃
 
-      pub middle-room : m₂ + 3 ≤ length l₂
-      middle-room = next_fits l 0 t₂ head_b fits₃ two_stored
-
-      module _ {l₃ : List ℕ} {m₃ : ℕ} (x₃ : Stored l₂ m₂ head_b l₃ m₃) where
-        three_stored : Stored l 0 t₃ l₃ m₃
-        three_stored = both_stored l 0 t₂ head_b two_stored x₃
-
-        pub second-asks : record { room : m₃ + length (digits ys) ≤ length l₃; small : Small ys }
+      module _ {p₃ : Page} (x₃ : Wrote p₂ head_b p₃) where
+        pub second-asks : record { room : Room p₃ (digits ys); small : Small ys }
         second-asks = record {
-          room = next_fits l 0 t₃ (digits ys) fits₄ three_stored;
+          room = next_room (both (both x₁ x₂) x₃) (digits ys) fits₄;
           small = subst Small (sym ys-is) ask.small_b;
         }
 
-        module _ {l₄ : List ℕ} {m₄ : ℕ} (x₄ : Stored l₃ m₃ (digits ys) l₄ m₄) where
-          four_stored : Stored l 0 t₄ l₄ m₄
-          four_stored = both_stored l 0 t₃ (digits ys) three_stored x₄
+        module _ {p₄ : Page} (x₄ : Wrote p₃ (digits ys) p₄) where
+          pub last-room : Room p₄ (10 ∷ [])
+          last-room = next_room (both (both (both x₁ x₂) x₃) x₄) (10 ∷ []) fits₅
 
-          pub last-room : m₄ + 1 ≤ length l₄
-          last-room = next_fits l 0 t₄ (10 ∷ []) fits₅ four_stored
-
-          pub tables-printed : {l₅ : List ℕ} {m₅ : ℕ} → Stored l₄ m₄ (10 ∷ []) l₅ m₅ → Prints (tables_of s) l l₅ m₅
-          tables-printed {l₅} {m₅} x₅ =
-              let all = both_stored l 0 t₄ (10 ∷ []) four_stored x₅ in
+          pub tables-printed : {p₅ : Page} → Wrote p₄ (10 ∷ []) p₅ → {exit : List ℕ} → exit ≡ p₅.bytes.now → Prints (tables_of s) p.bytes.now exit p₅.at
+          tables-printed {p₅} x₅ {exit} same =
               let f : tables_text xs ys ≡ tables_of s = λ i. tables_text (xs-is i) (ys-is i) in
-              subst (λ (t : List ℕ). Prints t l l₅ m₅) f (printed (tables_text xs ys) fits₅ all)
+              subst (λ (t : List ℕ). Prints t p.bytes.now exit p₅.at) f
+              (printed (tables_text xs ys) start fits₅ (both (both (both (both x₁ x₂) x₃) x₄) x₅) same)

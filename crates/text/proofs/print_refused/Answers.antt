@@ -1,6 +1,6 @@
 -- `text::print_refused` meets its contract: three texts make the line. Assumes nothing.
 use mathlib.Core.List.{[], ◌∷◌}
-use native.Mathlib.Omega.{arith}
+use Rattle.std.proofs.Common.{arith, refl}
 use Rattle.text.specs.Text.{head_refused, refused_text}
 use Rattle.text.specs.Numbers.{first_three}
 use Rattle.answer.proofs.Pieces.{both, three}
@@ -17,5 +17,4 @@ write-requires-2 c = (three head_refused (first_three c.args.o) (10 ∷ []) (ome
 pub returns : goal.returns
 returns c =
     let all = both (both c.write.ensures c.write_first_three.ensures) c.write-2.ensures in
-    let k = printed (refused_text c.args.o) (omega (arith, refused-short c.args.o (omega arith) (omega arith) (omega arith), c.requires)) all.stored in
-    record { long = k.long; bytes = grind (arith, k.bytes, all.same) }
+    printed (refused_text c.args.o) refl (omega (arith, refused-short c.args.o (omega arith) (omega arith) (omega arith), c.requires)) all (grind (arith, all.same))
