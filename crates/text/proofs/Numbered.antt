@@ -14,12 +14,13 @@ use lib.ListN.{length, drop, length-append}
 use Rattle.steps.specs.declared.Outcome.{Outcome}
 use Rattle.steps.specs.Step.{pick}
 use Rattle.steps.specs.Outcome.{success, refusal, refusing, writing, Ended}
-use Rattle.steps.proofs.Runs.{at_front}
+use Rattle.answer.specs.declared.page.Page.{Page}
+use Rattle.answer.proofs.Pieces.{from_front}
 use Rattle.text.specs.Decimal.{decimal}
 use Rattle.text.specs.Text.{longest_text, refused_text}
 use Rattle.text.specs.Numbers.{first_three, numbers_text, longest_numbers, numbered}
 use Rattle.text.proofs.Decimals.{decimal-short}
-use Rattle.answer.specs.Page.{Stored}
+use Rattle.answer.specs.Page.{Wrote}
 
 module _ (o : Outcome) (code : o.code < 256) (sheet : o.sheet < 256) (place : o.place < 2 ^ 64) where
   three-short : length (first_three o) ≤ 28
@@ -35,16 +36,18 @@ module _ (o : Outcome) (code : o.code < 256) (sheet : o.sheet < 256) (place : o.
       let long : length (numbers_text o) ≡ length (first_three o) + (1 + length (decimal o.written)) + (1 + length (decimal o.rule)) + 1 = simp length-append (omega arith) in
       omega (arith, three-short, decimal-short 20 o.written, decimal-short 20 o.rule)
 
+module _ (o : Outcome) {p q : Page} (start : p.at ≡ 0) {r : Outcome} where
+  pub numbered-wrote : longest_numbers ≤ length p.bytes.now → length (numbers_text o) ≤ longest_numbers → Wrote p (numbers_text o) q
+      → {exit : List ℕ} → exit ≡ q.bytes.now → r ≡ success 0 q.at → Ended (numbered o p.bytes.now) r exit
+  unfolding numbered
+  numbered-wrote large short x same e =
+      let long : q.at ≡ length (numbers_text o) = omega (arith, x.stored.value, start) in
+      rw (le-ltb (length p.bytes.now) longest_numbers large) (record { outcome = e ∙ ap (success 0) long; exit_is = same ∙ from_front start (omega arith) x })
+
 module _ (o : Outcome) (entry : List ℕ) {r : Outcome} where
   pub numbered-no-room : length entry < longest_numbers → r ≡ refusal 6 0 0 → Ended (numbered o entry) r entry
   unfolding numbered
   numbered-no-room few e = rw (lt-ltb (length entry) longest_numbers few) (record { outcome = e; exit_is = refl })
-
-  pub numbered-wrote : {exit : List ℕ} {m : ℕ} → longest_numbers ≤ length entry → length (numbers_text o) ≤ longest_numbers → Stored entry 0 (numbers_text o) exit m → r ≡ success 0 m → Ended (numbered o entry) r exit
-  unfolding numbered
-  numbered-wrote {exit} {m} large short x e =
-      let long : m ≡ length (numbers_text o) = omega (arith, x.value) in
-      rw (le-ltb (length entry) longest_numbers large) (record { outcome = e ∙ ap (success 0) long; exit_is = x.out_after ∙ at_front entry (numbers_text o) (omega arith) })
 
   -- by the test on the buffer's length
   fits : (b : Bool) {exit : List ℕ} → Ended (pick b (refusing (refusal 6 0 0) entry) (writing 0 (numbers_text o) entry)) r exit → r.written ≤ length exit

@@ -1,6 +1,6 @@
 -- `text::numbers` meets its contract: no room, or four texts that make the line. Assumes nothing.
 use mathlib.Core.List.{[], ◌∷◌, ◌++◌}
-use native.Mathlib.Omega.{arith}
+use Rattle.std.proofs.Common.{arith, refl}
 use Rattle.steps.specs.declared.Outcome.{Outcome}
 use Rattle.answer.specs.declared.page.Page.{Page}
 use Rattle.answer.specs.Page.{Room}
@@ -32,5 +32,4 @@ write-requires c = next_room (both (both c.write_first_three.ensures c.write_aft
 pub returns : goal.returns
 returns c =
     let all = both (both (both c.write_first_three.ensures c.write_after.ensures) c.write_after-2.ensures) c.write.ensures in
-    let end = numbered-wrote c.args.o c.args.out.now c.if-out-lt-LONGEST_NUMBERS.false (numbers-short c.args.o (omega arith) (omega arith) (omega arith) (omega arith) (omega arith)) all.stored c.succeeded.ensures in
-    record { outcome = end.outcome; exit_is = grind (arith, end.exit_is, all.same) }
+    numbered-wrote c.args.o refl c.if-out-lt-LONGEST_NUMBERS.false (numbers-short c.args.o (omega arith) (omega arith) (omega arith) (omega arith) (omega arith)) all (grind (arith, all.same)) c.succeeded.ensures
