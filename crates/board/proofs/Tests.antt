@@ -30,9 +30,6 @@ pub below-iff : (p : ℕ → Bool) (P : ℕ → Type 0) → ((i : ℕ) → (p i 
 unfolding all_below
 below-iff p P each n = Decides-below_and p P (all_below p) each refl (λ k. and_turned (all_below p k) (p k)) n
 
-pub all-below : (p : ℕ → Bool) (n : ℕ) → (all_below p n ≡ true) ↔ ((i : ℕ) → i < n → p i ≡ true)
-all-below p n = below-iff p (λ i. p i ≡ true) (λ i. (λ e. e, λ e. e)) n
-
 pub amongb-iff : (c : ℕ) (es : List Entry) → (amongb c es ≡ true) ↔ Among c es
 unfolding amongb
 amongb-iff c [] = (λ e. false≢true e, λ m. absurd m)
