@@ -1,4 +1,5 @@
 -- What `merge` leaves in the state: the loop over the rows, and what it means for a board.
+--     picks-..  what a row holds, by the marks of its claims
 --     Done      the loop's invariant: the rows below r are done, and the others are as they were
 --     merged    the state that `merge` leaves is the state with the spread of the marked claims merged in
 -- Assumes nothing.
@@ -8,7 +9,7 @@ use mathlib.Core.List.{List}
 use mathlib.Core.Logic.{◌⊎◌, inl, inr}
 use Prim.Native.Nat.{ℕ, ◌≤◌, ◌<◌}
 use native.Mathlib.Omega.{arith}
-use borrow.Author.Tests.{lt-ltb}
+use borrow.Author.Tests.{lt-ltb, eq-eqb, ne_eqb}
 use lib.Dec.{eqb}
 use lib.ListN.{length, get_or}
 use Rattle.board.specs.Board.{rows, row, claim, opposite}
@@ -17,9 +18,19 @@ use Rattle.board.proofs.Claims.{claim-cases, opposite-zero}
 use Rattle.theory.specs.Solve.{Good, Merged}
 use Rattle.grid.specs.Grid.{claims, grid_board}
 use Rattle.grid.specs.Grid.{Grid}
-use Rattle.scan.specs.Reach.{mark, marked}
-use Rattle.scan.specs.declared.Store.{Store}
+use Rattle.scan.specs.Reach.{Store, mark, marked}
 use Rattle.attempt.specs.Merge.{settled, MergedBy}
+
+-- ---- one row
+
+pub picks-0 : (x y z : ℕ) → x ≡ 1 → 0 ≡ settled x y z
+picks-0 x y z e = rw (eq-eqb x 1 e)
+
+pub picks-1 : (x y z : ℕ) → (x ≡ 1 → ⊥) → y ≡ 1 → 1 ≡ settled x y z
+picks-1 x y z n e = rw (ne_eqb x 1 n, eq-eqb y 1 e)
+
+pub picks-old : (x y z : ℕ) → (x ≡ 1 → ⊥) → (y ≡ 1 → ⊥) → z ≡ settled x y z
+picks-old x y z n m = rw (ne_eqb x 1 n, ne_eqb y 1 m)
 
 -- ---- the loop
 

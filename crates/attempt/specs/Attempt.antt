@@ -13,6 +13,7 @@ use Rattle.board.specs.Walk.{Reaches}
 use Rattle.theory.specs.Solve.{Settling}
 use Rattle.grid.specs.Grid.{claims, grid_board}
 use Rattle.grid.specs.Grid.{Grid}
+use Rattle.scan.specs.Reach.{Store, Room}
 use Rattle.spread.specs.Walk.{HalfWalk}
 
 -- row r is next, is not settled, and is tried with bit v; with 1 only where its 0 claim reaches its 1 claim
@@ -23,7 +24,8 @@ pub record Trying (B : Board) (r v : ℕ) (S : List ℕ) : Type 0 where
   pub bit : v < 2
   pub forced : v ≡ 1 → Reaches B (claim r 0) (claim r 1)
 
-pub record Attempts (g : Grid) (c : ℕ) (S W : List ℕ) (at : ℕ) : Type 0 where
+pub record Attempts (g : Grid) (s : Store) (c : ℕ) (S W : List ℕ) (at : ℕ) : Type 0 where
+  pub room : Room g s
   pub trying : Trying (grid_board g) (row c) (value c) S
   pub space : at + 4 * claims g ≤ length W + 4
 
@@ -36,6 +38,7 @@ pub record Half (g : Grid) (c : ℕ) (S W : List ℕ) (at : ℕ) (S' W' : List �
   pub bytes : W' ≡ take at W ++ fours entries ++ drop end W
 
 -- `None` where the rows are settled, else the place after half of a walk
-pub record Attempted (g : Grid) (c : ℕ) (S W : List ℕ) (at : ℕ) (S' W' : List ℕ) (end : Option ℕ) : Type 0 where
+pub record Attempted (g : Grid) (c : ℕ) (S W : List ℕ) (at : ℕ) (t : Store) (S' W' : List ℕ) (end : Option ℕ) : Type 0 where
+  pub room : Room g t
   pub long_walk : length W' ≡ length W
   pub ends : MatchOption end (Settling (grid_board g) S' (suc (row c))) (Half g c S W at S' W')

@@ -1,9 +1,10 @@
 -- The table while combinations are struck: turned, with the excuses' places filled in, and turned back.
 --     Waives                        the table with the places of the first excuses
---     one-waived                    and of one more
+--     none-waived, one-waived       none of them, and one more
 --     struck                        what it is after the second turn
+--     none-struck                   without excuses the table stays
 -- Assumes nothing.
-use mathlib.Core.Path.{◌≡◌, ◌∙◌}
+use mathlib.Core.Path.{◌≡◌, refl, ◌∙◌}
 use mathlib.Core.Logic.{◌⊎◌, ◌↔◌, inl, inr, ⊎_elim}
 use mathlib.Core.List.{List}
 use Prim.Native.Nat.{ℕ, ◌+◌, ◌-◌, ◌*◌, ◌/◌, ◌%◌, ◌^◌}
@@ -13,13 +14,19 @@ use Rattle.cubes.specs.declared.table.Table.{Table}
 use Rattle.wires.specs.Terms.{Setting, Excuses, Excused}
 use Rattle.wires.proofs.Digits.{low_digit}
 use Rattle.cubes.proofs.Cubed.{used}
-use Rattle.faults.specs.Table.{bit, Turned, Waived}
+use Rattle.faults.specs.Table.{bit, Turned, Waived, Struck}
 use Rattle.faults.proofs.Boards.{first_more}
 
 -- a table t of n wires that has 1 where it was so in the words s, and where one of the first k excuses excuses the combination
 pub record Waives (n : ℕ) (excuses : List ℕ) (k : ℕ) (s : List ℕ) (t : Table) : Type 0 where
   pub wires : t.wires ≡ n
   pub tells : (a x y : ℕ) → Setting n a x y → (bit t.words a x y ≡ 1) ↔ ((bit s a x y ≡ 1) ⊎ Excused n excuses k a)
+
+pub none-struck : (excuses : List ℕ) (s : Table) → length excuses ≡ 0 → Struck excuses s s
+none-struck excuses s e = record { wires = refl; tells = λ a x y b. (λ h. (h, λ k. omega (arith, k.1)), λ h. h.0) }
+
+pub none-waived : (excuses : List ℕ) (s : Table) → Waives s.wires excuses 0 s.words s
+none-waived excuses s = record { wires = refl; tells = λ a x y b. (inl, ⊎_elim (λ h. h) (λ k. absurd (omega (arith, k.1)))) }
 
 module _ (n : ℕ) (excuses s : List ℕ) where
   pub one-waived : (k : ℕ) (t u : Table) → Waives n excuses k s t → Waived (get_or excuses k 0) t u → Waives n excuses (k + 1) s u

@@ -7,7 +7,7 @@
 ghost use Rattle.std.specs.Prelude.{◌≡◌, ◌↔◌, true, ℕ, ◌*◌, ◌-◌, ◌^◌, ◌<◌, ◌≤◌, length, slice_index};
 ghost use Rattle.faults.specs.Table.{bit, Faults, Marked, Cleared, Turned, Waived, Struck};
 
-use cubes::table::Table;
+use cubes::table::{Table, WORDS};
 use cubes::{arranged, evens, fill_cube, last_block};
 
 // Sets the digit of each place where the rule is broken.
@@ -89,12 +89,12 @@ pub fn strike(table: &mut Table, excuses: &[u32])
 }
 
 // Whether some rule is broken where the wires have the combination `a`, cell A has `x` and cell B has `y`.
-pub fn fault(table: &Table, a: u32, x: u32, y: u32) -> bool
+pub fn fault(words: &[u64; WORDS], a: u32, x: u32, y: u32) -> bool
     requires a_bound { a < 2 ^ 14 }
     requires x_bound { x < 2 }
     requires y_bound { y < 2 }
-    ensures { (result ≡ true) ↔ (bit table.now.words a x y ≡ 1) }
+    ensures { (result ≡ true) ↔ (bit words.now a x y ≡ 1) }
 {
     let w = (a / 16) as usize;
-    (table.words[w] >> (4 * (a % 16) + 2 * x + y)) % 2 == 1
+    (words[w] >> (4 * (a % 16) + 2 * x + y)) % 2 == 1
 }

@@ -6,7 +6,7 @@ ghost use Rattle.std.specs.Prelude.{◌≡◌, ◌≤◌, length};
 ghost use Rattle.grid.specs.Grid.{Sound, grid};
 ghost use Rattle.grid.specs.Filled.{Doubles, Doubled, Asks, Rows, Faulted};
 
-use cubes::table::Table;
+use cubes::table::WORDS;
 
 // The sizes of a board: its wires, the wires that each cell sees, the rows of each cell, and the combinations.
 #[derive(Clone, Copy)]
@@ -60,12 +60,12 @@ pub fn fill_rows(wires: u32, seen: u32, rows: &mut [u8])
     }
 }
 
-// Takes the faults of each combination out of the table of words: four digits each.
-pub fn unpack(table: &Table, faults: &mut [u8])
+// Takes the faults of each combination out of a table's words: four digits each.
+pub fn unpack(words: &[u64; WORDS], faults: &mut [u8])
     requires { length faults.old ≤ 16384 }
-    ensures { Faulted (length faults.old) table.now.words faults.old faults.new }
+    ensures { Faulted (length faults.old) words.now faults.old faults.new }
 {
     for (a, fault) in faults.iter_mut().enumerate() {
-        *fault = ((table.words[a / 16] >> (4 * (a % 16))) % 16) as u8;
+        *fault = ((words[a / 16] >> (4 * (a % 16))) % 16) as u8;
     }
 }

@@ -140,12 +140,12 @@ module _ (g : Grid) (l : ℕ) where
 
   -- the aim by the claim's side: where the other cell's first row is B's first it is of B, and else of A
   module _ {own : Side} (d : own ≡ side_of g.shape l) where
-    to-b : Sound g → own.first ≡ g.shape.rows_a → aim_of g l ≡ aim g.faults g.row_b own
+    pub to-b : Sound g → own.first ≡ g.shape.rows_a → aim_of g l ≡ aim g.faults g.row_b own
     to-b ok e =
         by_cases (dec_lt (l / 2) g.shape.rows_a) (λ h. aim-a h ∙ ap (aim g.faults g.row_b) (sym d))
         (λ h. absurd (omega (arith, ap (λ (s : Side). s.first) (d ∙ of-b g.shape l (omega arith)), ok.sizes.rows_a, pow_pos (ones g.shape.sees_a))))
 
-    to-a : (own.first ≡ g.shape.rows_a → ⊥) → aim_of g l ≡ aim g.faults g.row_a own
+    pub to-a : (own.first ≡ g.shape.rows_a → ⊥) → aim_of g l ≡ aim g.faults g.row_a own
     to-a e =
         by_cases (dec_lt (l / 2) g.shape.rows_a) (λ h. absurd (e (ap (λ (s : Side). s.first) (d ∙ of-a g.shape l h))))
         (λ h. aim-b (omega arith) ∙ ap (aim g.faults g.row_a) (sym d))

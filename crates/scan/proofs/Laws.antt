@@ -5,8 +5,7 @@ use native.Mathlib.Decide.{ℕ_discrete}
 use Rattle.grid.specs.Grid.{Sound, claims}
 use Rattle.grid.specs.Grid.{Grid}
 use Rattle.scan.specs.Steps.{Step}
-use Rattle.scan.specs.Reach.{mark, entry, marks, Room, Parent, Placed, Reach, Same, Grown, Added, Left, Offered, Offers}
-use Rattle.scan.specs.declared.Store.{Store}
+use Rattle.scan.specs.Reach.{Store, mark, entry, marks, Room, Parent, Placed, Reach, Same, Grown, Added, Left, Offered, Offers}
 use Rattle.scan.proofs.Marks.{marks-add, marks-le, marks-lt}
 
 pub tail-le : {g : Grid} {s : Store} {tail : ℕ} → Reach g s tail → tail ≤ claims g
@@ -186,30 +185,12 @@ grown-trans p q = record {
   still = λ c e. q.still c (p.still c e);
 }
 
--- a store that was left as it was; its own note of the end may be another
-left-path : {s : Store} {tail : ℕ} {t : Store} {last : ℕ} → Left s tail t last → record s { tail = t.tail } ≡ t
-left-path {t = t} d = λ i. record { reached = sym d.reached i; queue = sym d.queue i; from = sym d.from i; by = sym d.by i; tail = t.tail }
+pub left-path : {s : Store} {tail : ℕ} {t : Store} {last : ℕ} → Left s tail t last → s ≡ t
+left-path d = λ i. record { reached = sym d.reached i; queue = sym d.queue i; from = sym d.from i; by = sym d.by i }
 
-grown-noted : {g : Grid} {s : Store} {tail : ℕ} → Reach g s tail → (n : ℕ) → Grown g s tail (record s { tail = n }) tail
-grown-noted {g} {s} {tail} h n = record {
-  reach = record {
-    room = record { reached = h.room.reached; queue = h.room.queue; from = h.room.from; by = h.room.by };
-    counted = h.counted;
-    flags = h.flags;
-    below = h.below;
-    marked = h.marked;
-    placed = λ c l e. let p = h.placed c l e in record { place = p.place; before = p.before; is = p.is };
-    apart = h.apart;
-    parents = λ i z l. let p = h.parents i z l in record { place = p.place; before = p.before; is = p.is; step = p.step };
-  };
-  same = record { reached = refl; queue = refl; from = refl; by = refl };
-  longer = le_refl tail;
-  kept = λ i l. refl;
-  still = λ c e. e;
-}
-
+-- a store that was left as it was
 left : {g : Grid} {s : Store} {tail : ℕ} {t : Store} {last : ℕ} → Reach g s tail → Left s tail t last → Grown g s tail t last
-left {g} {s} {tail} {t} h d = rw d.end (subst (λ (u : Store). Grown g s tail u tail) (left-path d) (grown-noted h t.tail))
+left {g} {s} {tail} h d = rw d.end (subst (λ (u : Store). Grown g s tail u tail) (left-path d) (grown-refl h))
 
 -- what `offer` does keeps the invariant, and marks the claim where the bit is set
 module _ {g : Grid} {s : Store} {tail f child parent a : ℕ} {t : Store} {last : ℕ} (h : Reach g s tail) (inside : child < claims g) (p : Placed s tail parent) (step : f ≡ 1 → Step g parent child a) where

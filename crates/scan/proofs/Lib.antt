@@ -1,4 +1,5 @@
 pub mod Sizes
+pub mod Arrays
 pub mod Marks
 pub mod Laws
 pub mod Aims

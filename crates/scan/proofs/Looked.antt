@@ -4,8 +4,7 @@ use Rattle.std.proofs.Common.{◌≡◌, ℕ, ◌+◌, ◌<◌, ◌∙◌, ⊎_e
 use Rattle.grid.specs.Grid.{claims, fault, bit, Sound}
 use Rattle.grid.specs.Grid.{Grid}
 use Rattle.scan.specs.Steps.{ShowsRow, aim_of, base}
-use Rattle.scan.specs.Reach.{mark, Placed, Reach, Grown, Found, Offered, Looks, Looked}
-use Rattle.scan.specs.declared.Store.{Store}
+use Rattle.scan.specs.Reach.{Store, mark, Placed, Reach, Grown, Found, Offered, Looks, Looked}
 use Rattle.scan.proofs.Aims.{Aims, aims, aim-faults, aim-long, shown-below}
 use Rattle.scan.proofs.Laws.{offers, offered, offered-mark, grown-trans}
 

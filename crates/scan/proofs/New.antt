@@ -7,8 +7,7 @@ use Rattle.wires.specs.Wires.{wire}
 use Rattle.wires.proofs.Digits.{wire-and, wire-or, wire-not, wire-zero}
 use Rattle.grid.specs.Grid.{bit}
 use Rattle.scan.specs.Steps.{Aim, base}
-use Rattle.scan.specs.Reach.{mark, Known, Left, Looked}
-use Rattle.scan.specs.declared.Store.{Store}
+use Rattle.scan.specs.Reach.{Store, mark, Known, Left, Looked}
 
 -- one less than a mark of 0 is a mask of all eight bits
 full : (k up : ℕ) → k < 8 → up < 2 ^ 8 → (up + 1) % 2 ^ 8 ≡ 0 → wire (bit_and (1 * 2 ^ k % 2 ^ 8) up) k ≡ 1

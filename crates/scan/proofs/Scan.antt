@@ -11,8 +11,7 @@ use Rattle.wires.proofs.Parts.{parts-of, part-shows, part-below, part-rises, par
 use Rattle.grid.specs.Grid.{claims, Sound}
 use Rattle.grid.specs.Grid.{Grid}
 use Rattle.scan.specs.Steps.{ShowsRow, Aim, aim_of, side_of}
-use Rattle.scan.specs.Reach.{Looks, Looked, Asks, Swept}
-use Rattle.scan.specs.declared.Store.{Store}
+use Rattle.scan.specs.Reach.{Store, Looks, Looked, Asks, Swept}
 use Rattle.scan.specs.declared.Side.{Side}
 use Rattle.scan.proofs.Sizes.{in-a}
 use Rattle.scan.proofs.Aims.{of-a, of-b}

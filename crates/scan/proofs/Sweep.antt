@@ -3,8 +3,7 @@
 use Rattle.std.proofs.Common.{◌≡◌, ℕ, zero, suc, ◌+◌, ◌-◌, ◌<◌, ◌≤◌, sym, subst, add-zero, arith, below_none, below_more}
 use Rattle.grid.specs.Grid.{Grid, Sound}
 use Rattle.scan.specs.Steps.{ShowsRow, aim_of}
-use Rattle.scan.specs.Reach.{Reach, Grown, Found, Looked, Visited, Asks, Swept}
-use Rattle.scan.specs.declared.Store.{Store}
+use Rattle.scan.specs.Reach.{Store, Reach, Grown, Found, Looked, Visited, Asks, Swept}
 use Rattle.scan.specs.Reach.Visited.{begin, look, pass}
 use Rattle.scan.proofs.Aims.{step-within, step-shown}
 use Rattle.scan.proofs.Laws.{grown-refl, grown-trans}

@@ -1,5 +1,5 @@
--- What the spread keeps in its store, and what each function of the scan promises of it.
---     Store      the four arrays, the struct of `src/lib.rt`: the marks, the queue, and each claim's parent claim and combination; and the queue's end
+-- What the spread keeps in the lent arrays, and what each function of the scan promises of it.
+--     Store      the four arrays: the marks, the queue, and each claim's parent claim and combination
 --     marks      the sum of the first n marks
 --     Reach      the invariant: the first `tail` queue entries are exactly the marked claims, each once, and each but the first has a parent that stands before it
 --     Grown      from one store to a later one: more claims, none lost, the queue's front as it was
@@ -11,7 +11,15 @@ use Rattle.std.specs.Prelude.{◌≡◌, ℕ, zero, suc, ◌+◌, ◌<◌, ◌�
 use Rattle.grid.specs.Grid.{claims, bit}
 use Rattle.grid.specs.Grid.{Grid}
 use Rattle.scan.specs.Steps.{ShowsRow, Step, Aim, aim_of, base}
-use Rattle.scan.specs.declared.Store.{Store}
+
+pub record Store : Type 0 where
+  pub reached : List ℕ
+  pub queue : List ℕ
+  pub from : List ℕ
+  pub by : List ℕ
+
+abbrev pub store : List ℕ → List ℕ → List ℕ → List ℕ → Store
+store r q f y = record { reached = r; queue = q; from = f; by = y }
 
 abbrev pub mark : Store → ℕ → ℕ
 mark s c = slice_index s.reached c

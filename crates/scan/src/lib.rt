@@ -1,6 +1,7 @@
 // The scan of one reached claim: the claims to which its steps lead are marked and queued.
 //
-// The board stands in a `Grid`, and what the spread has reached in a `Store`. The definitions stand in specs/Steps and specs/Reach.
+// The board stands in a `Grid`, and what the spread has reached in a `Store`. The definitions stand in specs/Steps, specs/Reach and
+// specs/Kept.
 // Leans on `wires` and `grid`.
 #![tactic(auto)]
 
@@ -9,6 +10,7 @@ ghost use Rattle.grid.specs.Grid.{bit};
 ghost use Rattle.grid.specs.Held.{held};
 ghost use Rattle.scan.specs.Steps.{side_of, aim, other_rows};
 ghost use Rattle.scan.specs.Reach.{Offered, Offers, Known, Looks, Looked, Asks, Swept};
+ghost use Rattle.scan.specs.Kept.{kept, SameArrays};
 
 use grid::{Grid, Shape};
 use wires::{Claim, Combination, next_part, row_placed};
@@ -16,15 +18,15 @@ use wires::{Claim, Combination, next_part, row_placed};
 // Places for the most claims.
 pub const CLAIMS: usize = 1024;
 
-// The claims that a spread has reached: a mark for each claim, the parent claim and the combination by which each was reached,
-// and a queue of the marked claims, which ends before `tail`. A mark is 0 or 1, a number and not a `bool`, since `some_new`
-// computes masks from marks.
+// The claims that a spread has reached, in arrays that are lent, with a place for each claim: a mark for each claim, the parent
+// claim and the combination by which each was reached, and a queue of the marked claims, which ends before `tail`. A mark is 0
+// or 1, a number and not a `bool`, since `some_new` computes masks from marks.
 #[derive(Drop)]
-pub struct Store {
-    pub reached: [u8; CLAIMS],
-    pub queue: [u16; CLAIMS],
-    pub from: [u16; CLAIMS],
-    pub by: [u16; CLAIMS],
+pub struct Store<'a> {
+    pub reached: &'a mut [u8],
+    pub queue: &'a mut [u16],
+    pub from: &'a mut [u16],
+    pub by: &'a mut [u16],
     pub tail: usize,
 }
 
@@ -92,11 +94,12 @@ fn other_rows<'a>(grid: &Grid<'a>, own: Side) -> &'a [u8]
     }
 }
 
-impl Store {
+impl Store<'_> {
     // Marks and queues `child`, with its parent, where bit k of f is set and the claim is not marked yet.
     fn offer(&mut self, f: u8, k: usize, child: Claim, parent: Claim, combination: Combination)
-        requires { Offers self.old self.old.tail child.0 k }
-        ensures { Offered self.old self.old.tail (bit f k) child.0 parent.0 combination.0 self.new self.new.tail }
+        requires { Offers (kept self.old) self.old.tail child.0 k }
+        ensures offered { Offered (kept self.old) self.old.tail (bit f k) child.0 parent.0 combination.0 (kept self.new) self.new.tail }
+        ensures same { SameArrays self.old self.new }
     {
         if bit_of(f, k) != 1 {
             return;
@@ -126,8 +129,9 @@ impl Store {
         claim: Claim,
         combination: Combination,
     )
-        requires { Looks (aim faults.now other.now own) self.old self.old.tail claim.0 combination.0 }
-        ensures { Looked (aim faults.now other.now own) self.old self.old.tail claim.0 combination.0 self.new self.new.tail }
+        requires { Looks (aim faults.now other.now own) (kept self.old) self.old.tail claim.0 combination.0 }
+        ensures looked { Looked (aim faults.now other.now own) (kept self.old) self.old.tail claim.0 combination.0 (kept self.new) self.new.tail }
+        ensures same { SameArrays self.old self.new }
     {
         let n = combination.0;
         let a = n as usize;
@@ -143,8 +147,9 @@ impl Store {
     // Every look of one marked claim: the combinations that show its row, in rising order. The lowest has 0 at each wire that the
     // claim's cell does not see, and the next comes by the next part of these wires, so no range counts them.
     pub fn looks(&mut self, grid: &Grid, claim: Claim)
-        requires { Asks (held grid.now) self.old self.old.tail claim.0 }
-        ensures { Swept (held grid.now) self.old self.old.tail claim.0 self.new self.new.tail }
+        requires { Asks (held grid.now) (kept self.old) self.old.tail claim.0 }
+        ensures swept { Swept (held grid.now) (kept self.old) self.old.tail claim.0 (kept self.new) self.new.tail }
+        ensures same { SameArrays self.old self.new }
     {
         let own = side_of(grid.shape, claim);
         let other = other_rows(grid, own);

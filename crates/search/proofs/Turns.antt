@@ -17,6 +17,7 @@ use Rattle.theory.proofs.Merge.{blank-settling}
 use Rattle.theory.proofs.First.{settled-first}
 use Rattle.grid.specs.Grid.{grid_board, Sound}
 use Rattle.grid.specs.Grid.{Grid}
+use Rattle.scan.specs.Reach.{Store}
 use Rattle.scan.proofs.Sizes.{shows}
 use Rattle.attempt.specs.Attempt.{Half, Attempted}
 use Rattle.search.specs.Settle.{Settles, Settled, Searches, Searched}
@@ -36,21 +37,23 @@ to-zero r = omega arith
 
 module _
     {g : Grid}
+    {s t : Store}
     {r : ℕ}
     {S W S' W' : List ℕ}
     {middle : ℕ}
     (ok : Sound g)
-    (a : Settles g r S W)
-    (b : Attempted g (2 * r) S W 0 S' W' (Some middle))
+    (a : Settles g s r S W)
+    (b : Attempted g (2 * r) S W 0 t S' W' (Some middle))
   where
     x : Half g (2 * r) S W 0 S' W' middle
     x = b.ends
 
-    pub second-settles : {S'' W'' : List ℕ} {end : Option ℕ} → Attempted g (2 * r + 1) S' W' middle S'' W'' end → Settled g r W S'' W'' end
-    second-settles {end = None} d = record { long_walk = d.long_walk ∙ b.long_walk; ends = rw (row_one r) at d.ends }
+    pub second-settles : {u : Store} {S'' W'' : List ℕ} {end : Option ℕ} → Attempted g (2 * r + 1) S' W' middle u S'' W'' end → Settled g r W u S'' W'' end
+    second-settles {end = None} d = record { room = d.room; long_walk = d.long_walk ∙ b.long_walk; ends = rw (row_one r) at d.ends }
     second-settles {S'' = S''} {W'' = W''} {end = Some last} d =
         let y : Half g (2 * r + 1) S' W' middle S'' W'' last = d.ends in
         record {
+          room = d.room;
           long_walk = d.long_walk ∙ b.long_walk;
           ends = halves-written x y ok (to_one r) (to-zero r)
               (omega (arith, a.space, d.long_walk, b.long_walk, x.end_is, y.end_is, x.half.few, y.half.few, x.half.some));

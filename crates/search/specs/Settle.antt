@@ -12,8 +12,10 @@ use Rattle.board.specs.Walk.{Stands}
 use Rattle.theory.specs.Solve.{Settling}
 use Rattle.grid.specs.Grid.{claims, grid_board}
 use Rattle.grid.specs.Grid.{Grid}
+use Rattle.scan.specs.Reach.{Store, Room}
 
-pub record Settles (g : Grid) (r : ℕ) (S W : List ℕ) : Type 0 where
+pub record Settles (g : Grid) (s : Store) (r : ℕ) (S W : List ℕ) : Type 0 where
+  pub room : Room g s
   pub settling : Settling (grid_board g) S r
   pub row : r < rows (grid_board g)
   pub space : 8 * claims g ≤ length W + 8
@@ -29,7 +31,8 @@ pub record WalkWritten (g : Grid) (W : List ℕ) (end : ℕ) : Type 0 where
   pub bytes : take end W ≡ fours entries
 
 -- `None` where the row is settled, else the length of a walk
-pub record Settled (g : Grid) (r : ℕ) (W S' W' : List ℕ) (end : Option ℕ) : Type 0 where
+pub record Settled (g : Grid) (r : ℕ) (W : List ℕ) (t : Store) (S' W' : List ℕ) (end : Option ℕ) : Type 0 where
+  pub room : Room g t
   pub long_walk : length W' ≡ length W
   pub ends : MatchOption end (Settling (grid_board g) S' (suc r)) (WalkWritten g W')
 

@@ -4,6 +4,7 @@
 #![tactic(auto)]
 
 ghost use Rattle.grid.specs.Held.{held};
+ghost use Rattle.scan.specs.Kept.{kept, SameArrays};
 ghost use Rattle.search.specs.Settle.{Settles, Settled, Searches, Searched};
 
 use attempt::attempt;
@@ -24,8 +25,9 @@ fn settle(
     state: &mut [u8],
     walk: &mut [u8],
 ) -> Option<usize>
-    requires { Settles (held grid.now) row state.old walk.old }
-    ensures { Settled (held grid.now) row walk.old state.new walk.new result }
+    requires { Settles (held grid.now) (kept store.old) row state.old walk.old }
+    ensures settled { Settled (held grid.now) row walk.old (kept store.new) state.new walk.new result }
+    ensures same { SameArrays store.old store.new }
 {
     if state[row] != UNSETTLED {
         return None;
@@ -42,11 +44,15 @@ pub fn search(grid: &Grid, state: &mut [u8], walk: &mut [u8]) -> Option<usize>
     requires { Searches (held grid.now) state.old walk.old }
     ensures { Searched (held grid.now) walk.old state.new walk.new result }
 {
+    let mut reached = [0u8; CLAIMS];
+    let mut queue = [0u16; CLAIMS];
+    let mut from = [0u16; CLAIMS];
+    let mut by = [0u16; CLAIMS];
     let mut store = Store {
-        reached: [0; CLAIMS],
-        queue: [0; CLAIMS],
-        from: [0; CLAIMS],
-        by: [0; CLAIMS],
+        reached: &mut reached,
+        queue: &mut queue,
+        from: &mut from,
+        by: &mut by,
         tail: 0,
     };
     for row in 0..grid.shape.rows_a + grid.shape.rows_b {

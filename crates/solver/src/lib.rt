@@ -93,7 +93,7 @@ fn solve_board(h: JobHead, masks: &[u32], answer: &mut [u8]) -> Outcome
     fill_faults(&mut table, &masks[..rules]);
     strike(&mut table, &masks[rules..end]);
     let mut faults = [0u8; COMBINATIONS];
-    unpack(&table, &mut faults[..combinations]);
+    unpack(&table.words, &mut faults[..combinations]);
     let mut row_a = [0u8; COMBINATIONS];
     fill_rows(h.wires, h.sees_a, &mut row_a);
     let mut row_b = [0u8; COMBINATIONS];

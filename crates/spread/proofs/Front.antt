@@ -1,19 +1,18 @@
 -- The loop of `spread`: how it begins, one turn, and the end.
 -- Assumes nothing.
 use Prim.Native.Nat.{ℕ, ◌+◌, ◌<◌, ◌≤◌}
-use mathlib.Core.Path.{◌≡◌, sym, ap, ◌∙◌}
+use mathlib.Core.Path.{◌≡◌, sym, ◌∙◌}
 use mathlib.Core.List.{List, ◌++◌}
 use native.Mathlib.Nat.{not-suc-le-zero}
 use native.Mathlib.Decide.{ℕ_discrete}
 use native.Mathlib.Omega.{arith}
 use borrow.Author.Count.{below_more}
-use lib.ListN.{length, get_or, set, take, drop, replicate, length-set, length-append, length-drop, length-replicate, get_or-replicate, get_or-append}
-use lib.Seq.{get_or-set_same, get_or-set_other, length-take-le}
+use lib.ListN.{length, get_or, set, drop, replicate, length-set, length-replicate, get_or-replicate, get_or-append}
+use lib.Seq.{get_or-set_same, get_or-set_other}
 use Rattle.grid.specs.Grid.{claims}
 use Rattle.grid.specs.Grid.{Grid}
 use Rattle.scan.specs.Steps.{Step}
-use Rattle.scan.specs.Reach.{mark, entry, marks, Room, Placed, Reach, Swept}
-use Rattle.scan.specs.declared.Store.{Store}
+use Rattle.scan.specs.Reach.{Store, store, mark, entry, marks, Room, Placed, Reach, Asks, Swept}
 use Rattle.scan.proofs.Marks.{marks-add, marks-none}
 use Rattle.scan.proofs.Laws.{tail-le}
 use Rattle.spread.specs.Spread.{Closed, Spread}
@@ -25,35 +24,23 @@ pub record Front (g : Grid) (start : ℕ) (t : Store) (tail head : ℕ) : Type 0
   pub reach : Reach g t tail
   pub closed : Closed g t head
 
+-- the first n of a cleared array are 0
+cleared : (n : ℕ) (l m : List ℕ) → m ≡ replicate n 0 ++ drop n l → (c : ℕ) → c < n → get_or m c 0 ≡ 0
+cleared n l m e c h = rw e (get_or-append (replicate n 0) (drop n l) 0 c (rw length-replicate h) ∙ get_or-replicate n c 0 0 h)
+
 only : (i : ℕ) → i < 1 → i ≡ 0
 only i h = omega arith
 
 -- one claim is marked and queued
 abbrev pub started : ℕ → List ℕ → Store → Store
-started start r s = record { reached = set r start 1; queue = set s.queue 0 start; from = s.from; by = s.by; tail = 1 }
+started start r s = store (set r start 1) (set s.queue 0 start) s.from s.by
 
--- the marks, of which the first were filled with 0
-module _ {g : Grid} {start : ℕ} (s : Store) (inside : start < claims g) (room : Room g s) (front : List ℕ) (clear : front ≡ replicate (length (take (claims g) s.reached)) 0) where
-  abbrev r : List ℕ
-  r = front ++ drop (claims g) s.reached
-
+module _ {g : Grid} {start : ℕ} {s : Store} {r : List ℕ} (inside : start < claims g) (room : Room g s) (long : length r ≡ length s.reached) (clear : r ≡ replicate (claims g) 0 ++ drop (claims g) s.reached) where
   abbrev s₁ : Store
   s₁ = started start r s
 
-  some-long : length (take (claims g) s.reached) ≡ claims g
-  some-long = length-take-le (claims g) s.reached room.reached
-
-  front-is : front ≡ replicate (claims g) 0
-  front-is = clear ∙ ap (λ (n : ℕ). replicate n 0) some-long
-
-  front-long : length front ≡ claims g
-  front-long = ap length front-is ∙ length-replicate (claims g) 0
-
-  long : length r ≡ length s.reached
-  long = simp (length-append, length-drop) (omega (arith, front-long, room.reached))
-
   none : (c : ℕ) → c < claims g → get_or r c 0 ≡ 0
-  none c h = get_or-append front (drop (claims g) s.reached) 0 c (omega (arith, front-long)) ∙ rw front-is (get_or-replicate (claims g) c 0 0 h)
+  none = cleared (claims g) s.reached r clear
 
   first : entry s₁ 0 ≡ start
   first = get_or-set_same s.queue 0 start 0 (omega (arith, room.queue))
@@ -106,6 +93,9 @@ module _ {g : Grid} {start : ℕ} (s : Store) (inside : start < claims g) (room 
   }
 
 module _ {g : Grid} {start : ℕ} {t : Store} {tail head : ℕ} (w : Front g start t tail head) where
+  pub front-ask : head < tail → Asks g t tail (entry t head)
+  front-ask h = record { reach = w.reach; inside = w.reach.below head h; known = w.reach.marked head h }
+
   pub front-turn : {u : Store} {last : ℕ} → head < tail → Swept g t tail (entry t head) u last → Front g start u last (head + 1)
   front-turn {u} h q = record {
     at = omega (arith, q.grown.longer);

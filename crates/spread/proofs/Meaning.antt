@@ -31,8 +31,7 @@ use Rattle.grid.specs.Grid.{claims, fault, bit, Sound, grid_board}
 use Rattle.grid.specs.Grid.{Grid}
 use Rattle.scan.specs.Steps.{Step}
 use Rattle.scan.specs.Steps.Step.{a-to-b, b-to-a}
-use Rattle.scan.specs.Reach.{mark, entry, marked, Placed, Parent}
-use Rattle.scan.specs.declared.Store.{Store}
+use Rattle.scan.specs.Reach.{Store, mark, entry, marked, Placed, Parent}
 use Rattle.scan.proofs.Sizes.{shows}
 use Rattle.spread.specs.Spread.{Spread}
 use Rattle.answer.specs.declared.page.Page.{Page}

@@ -1,4 +1,4 @@
--- What the spread asks, and what it promises of the store.
+-- What the spread asks of the lent arrays, and what it promises of them.
 --     Starts     what `spread` asks
 --     Closed     no step leads from the first n queue entries to a claim that is not marked
 --     Spread     every claim to which steps lead from the start is marked, and no other
@@ -7,11 +7,11 @@ use Rattle.std.specs.Prelude.{ℕ, ◌<◌, ◌≤◌, ◌≡◌}
 use Rattle.grid.specs.Grid.{claims}
 use Rattle.grid.specs.Grid.{Grid}
 use Rattle.scan.specs.Steps.{Step}
-use Rattle.scan.specs.Reach.{mark, entry, Reach}
-use Rattle.scan.specs.declared.Store.{Store}
+use Rattle.scan.specs.Reach.{Store, mark, entry, Room, Reach}
 
 -- what `spread` asks and promises
-pub record Starts (g : Grid) (start : ℕ) : Type 0 where
+pub record Starts (g : Grid) (s : Store) (start : ℕ) : Type 0 where
+  pub room : Room g s
   pub inside : start < claims g
 
 -- no step leads from the first n queue entries to a claim that is not marked

@@ -5,9 +5,10 @@
 // Leans on `wires`, `answer`, `grid` and `scan`.
 #![tactic(auto)]
 
-ghost use Rattle.std.specs.Prelude.{◌≡◌};
+ghost use Rattle.std.specs.Prelude.{◌≡◌, ◌≤◌, ◌++◌, length, drop, replicate};
 ghost use Rattle.board.specs.Board.{opposite as opp};
 ghost use Rattle.grid.specs.Held.{held};
+ghost use Rattle.scan.specs.Kept.{kept, SameArrays};
 ghost use Rattle.spread.specs.Spread.{Starts, Spread};
 ghost use Rattle.spread.specs.Walk.{Backs, Written};
 
@@ -16,14 +17,24 @@ use grid::Grid;
 use scan::Store;
 use wires::{Claim, Combination};
 
+// Sets the first n marks to 0. The part is cut here and not by the caller: once a part of what a field lends was lent, the check no
+// longer knows what it is.
+fn clear(reached: &mut [u8], n: usize)
+    requires { n ≤ length reached.old }
+    ensures { reached.new ≡ replicate n 0 ++ drop n reached.old }
+{
+    reached[..n].fill(0);
+}
+
 // Marks and queues every claim to which steps lead from `start`, nearest first, with the parent of each. The queue grows while it
 // is read, so the loop counts by hand.
 pub fn spread(grid: &Grid, start: Claim, store: &mut Store)
-    requires { Starts (held grid.now) start.0 }
-    ensures { Spread (held grid.now) start.0 store.new store.new.tail }
+    requires { Starts (held grid.now) (kept store.old) start.0 }
+    ensures spread { Spread (held grid.now) start.0 (kept store.new) store.new.tail }
+    ensures same { SameArrays store.old store.new }
 {
     let n = 2 * (grid.shape.rows_a + grid.shape.rows_b);
-    store.reached[..n].fill(0);
+    clear(store.reached, n);
     let m = start.0;
     let c = m as usize;
     store.reached[c] = 1;

@@ -23,5 +23,5 @@ pub returns : goal.returns
 returns c = record {
   long = c.loop-a.auto.faults;
   small = λ a l. omega (arith, c.loop-a.invariant a (omega arith));
-  bits = λ a x y l hx hy. ap (λ (f : ℕ). bit f (2 * x + y)) (c.loop-a.invariant a (omega arith)) ∙ cut_bit c.args.table.now.words a x y hx hy;
+  bits = λ a x y l hx hy. ap (λ (f : ℕ). bit f (2 * x + y)) (c.loop-a.invariant a (omega arith)) ∙ cut_bit c.args.words.now a x y hx hy;
 }
