@@ -2,7 +2,8 @@
 // stays. What the methods ask and leave stands in specs/Page.
 #![tactic(auto)]
 
-ghost use Rattle.std.specs.Prelude.{[], ◌∷◌, ◌<◌, length};
+ghost use Rattle.std.specs.Prelude.{◌≡◌, [], ◌∷◌, ◌+◌, ◌<◌, ◌≤◌, length};
+ghost use Rattle.std.proofs.lemmas.List.Edits.{sets};
 ghost use Rattle.answer.specs.Page.{Room, Wrote};
 ghost use Rattle.answer.specs.Written.{two, table, four};
 
@@ -15,16 +16,24 @@ pub struct Page<'a> {
     pub at: usize,
 }
 
+// Stores `text` from `at` on, byte by byte: with `copy_from_slice` an archive for C would need `memmove` from outside.
+fn store(bytes: &mut [u8], at: usize, text: &[u8])
+    requires { at + length text.now ≤ length bytes.old }
+    ensures { bytes.new ≡ sets bytes.old at text.now }
+{
+    for i in 0..text.len() {
+        bytes[at + i] = text[i];
+    }
+}
+
 impl Page<'_> {
     // Writes bytes.
     pub fn write(&mut self, text: &[u8])
         requires { Room self.old text.now }
         ensures { Wrote self.old text.now self.new }
     {
-        let at = self.at;
-        let end = at + text.len();
-        self.bytes[at..end].copy_from_slice(text);
-        self.at = end;
+        store(self.bytes, self.at, text);
+        self.at += text.len();
     }
 
     // Writes a byte.

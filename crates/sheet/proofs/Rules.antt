@@ -1,4 +1,4 @@
--- A turn of the loop that reads rules, or excuses, and stores each. Assumes nothing.
+-- A turn of the loop that reads rules, or excuses, and stores each, the next at place p. Assumes nothing.
 use mathlib.Core.Path.{◌≡◌, ap}
 use mathlib.Core.List.{List, ◌∷◌}
 use Prim.Native.Nat.{ℕ, zero, suc, ◌+◌, ◌-◌, ◌≤◌, ◌<◌}
@@ -19,8 +19,8 @@ pub rules-start : (n terms : ℕ) (s : List ℕ) (at : ℕ) → rules_pass n ter
 unfolding rules_pass
 rules-start n terms s at = let e : n ≡ n - 0 = omega arith in ap (λ (j : ℕ). rules_from j terms n s at) e
 
-pub kept-start : (n terms : ℕ) (s : List ℕ) (at : ℕ) (buf : List ℕ) → sets buf 0 (kept n terms s at) ≡ sets buf 0 (kept (n - 0) terms s at)
-kept-start n terms s at buf = let e : n ≡ n - 0 = omega arith in ap (λ (j : ℕ). sets buf 0 (kept j terms s at)) e
+pub kept-start : (n terms : ℕ) (s : List ℕ) (at : ℕ) (buf : List ℕ) (p : ℕ) → sets buf p (kept n terms s at) ≡ sets buf p (kept (n - 0) terms s at)
+kept-start n terms s at buf p = let e : n ≡ n - 0 = omega arith in ap (λ (j : ℕ). sets buf p (kept j terms s at)) e
 
 module _ (n i terms : ℕ) (s : List ℕ) (at : ℕ) where
   module _ (more : i < n) where
@@ -35,17 +35,17 @@ module _ (n i terms : ℕ) (s : List ℕ) (at : ℕ) where
     unfolding rules
     rules-stop w h = rw (one, h)
 
-    -- the rule that was read is stored at i
-    pub kept-go : (buf : List ℕ) (r a : ℕ) → counted_mask terms terms s at ≡ got r a
-        → sets buf i (kept (n - i) terms s at) ≡ sets (set buf i r) (i + 1) (kept (n - (i + 1)) terms s a)
+    -- the rule that was read is stored at p
+    pub kept-go : (buf : List ℕ) (p r a : ℕ) → counted_mask terms terms s at ≡ got r a
+        → sets buf p (kept (n - i) terms s at) ≡ sets (set buf p r) (p + 1) (kept (n - (i + 1)) terms s a)
     unfolding kept
-    kept-go buf r a h =
-        let p : suc i ≡ i + 1 = omega arith in
-        rw (one, h) (ap (λ (k : ℕ). sets (set buf i r) k (kept (n - (i + 1)) terms s a)) p)
+    kept-go buf p r a h =
+        let e : suc p ≡ p + 1 = omega arith in
+        rw (one, h) (ap (λ (k : ℕ). sets (set buf p r) k (kept (n - (i + 1)) terms s a)) e)
 
-    pub kept-stop : (buf : List ℕ) (w : Refusal) → counted_mask terms terms s at ≡ refused w → sets buf i (kept (n - i) terms s at) ≡ buf
+    pub kept-stop : (buf : List ℕ) (p : ℕ) (w : Refusal) → counted_mask terms terms s at ≡ refused w → sets buf p (kept (n - i) terms s at) ≡ buf
     unfolding kept
-    kept-stop buf w h = rw (one, h)
+    kept-stop buf p w h = rw (one, h)
 
   module _ (all : n ≤ i) where
     none : n - i ≡ 0
@@ -55,9 +55,9 @@ module _ (n i terms : ℕ) (s : List ℕ) (at : ℕ) where
     unfolding rules
     rules-done = rw none
 
-    pub kept-done : (buf : List ℕ) → sets buf i (kept (n - i) terms s at) ≡ buf
+    pub kept-done : (buf : List ℕ) (p : ℕ) → sets buf p (kept (n - i) terms s at) ≡ buf
     unfolding kept
-    kept-done buf = rw none
+    kept-done buf p = rw none
 
 -- no more are stored than were asked for
 cons-few : (t : Step ℕ) (f : ℕ → List ℕ) (n : ℕ) → ((m : ℕ) → length (f m) ≤ n) → length (cons_of t f) ≤ suc n

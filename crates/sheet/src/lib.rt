@@ -48,21 +48,22 @@ const PIN_LIMIT: u32 = 256;
 // The length of an array with room for the most rules and the most excuses.
 pub const MASKS: usize = 320;
 
-// The pins, of which nothing is kept. An entry is one byte, so the next place waits for no answer.
+// The pins, of which nothing is kept. An entry is one byte, so the next place waits for no answer. What was found is read from the
+// sheet: in a step's answer it shares its place with the kind of a refusal, and each entry would wait for the choice between them.
 pub fn check_pins(sheet: &[u8], at: usize, count: u32) -> Read
     ensures { result ≡ as_read (pins_pass count sheet.now at) }
 {
     let mut place = at;
     let mut least: u32 = 0;
     for _ in 0..count {
-        let (number, _) = read_entry(sheet, place, PIN_LIMIT, least)?;
-        least = number + 1;
+        read_entry(sheet, place, PIN_LIMIT, least)?;
+        least = sheet[place] as u32 + 1;
         place += 1;
     }
     Ok((count, place))
 }
 
-// A set of `count` entries below `limit`, one bit each.
+// A set of `count` entries below `limit`, one bit each, read as the pins are.
 pub fn read_set(sheet: &[u8], at: usize, count: u32, limit: u32) -> Read
     requires { limit ≤ 32 }
     ensures { result ≡ as_read (mask count limit sheet.now at) }
@@ -71,7 +72,8 @@ pub fn read_set(sheet: &[u8], at: usize, count: u32, limit: u32) -> Read
     let mut place = at;
     let mut least: u32 = 0;
     for _ in 0..count {
-        let (e, _) = read_entry(sheet, place, limit, least)?;
+        read_entry(sheet, place, limit, least)?;
+        let e = sheet[place] as u32;
         bits |= 1 << e;
         least = e + 1;
         place += 1;
@@ -79,13 +81,13 @@ pub fn read_set(sheet: &[u8], at: usize, count: u32, limit: u32) -> Read
     Ok((bits, place))
 }
 
-// A set after its count.
+// A set after its count, which is one byte, read as the pins are.
 pub fn read_counted_set(sheet: &[u8], at: usize, most: u32, limit: u32) -> Read
     requires { limit ≤ 32 }
     ensures { result ≡ as_read (counted_mask most limit sheet.now at) }
 {
-    let (n, next) = read_count(sheet, at, most)?;
-    read_set(sheet, next, n, limit)
+    read_count(sheet, at, most)?;
+    read_set(sheet, at + 1, sheet[at] as u32, limit)
 }
 
 // Rules, or excuses, as many as there are places for in `masks`: each is stored as it is read.

@@ -11,7 +11,7 @@ use lib.Dec.{ltb, leb}
 use lib.ListN.{length, get_or}
 use Rattle.steps.specs.declared.Refusal.{Refusal}
 use Rattle.steps.specs.Step.{Step, got, refused, next, pick}
-use Rattle.steps.specs.Bytes.{byte, rising, entry, entries}
+use Rattle.steps.specs.Bytes.{byte, within, count, rising, entry, entries}
 
 pub apart : {A : Type 0} (a : A) (n : ℕ) (w : Refusal) → got a n ≡ refused w → ⊥
 apart a n w p = let z : ◌≡◌ {A = ℕ} 0 1 = cc in omega arith
@@ -99,6 +99,29 @@ entry-byte limit least s at v n h =
 
 pub entry_next : (limit least : ℕ) (s : List ℕ) (at v n : ℕ) → entry limit least s at ≡ got v n → entry limit least s at ≡ got v (at + 1)
 entry_next limit least s at v n h = h ∙ ap (got v) (entry-byte limit least s at v n h).2
+
+-- so the sheet itself says which entry was found
+pub entry-here : (limit least : ℕ) (s : List ℕ) (at v n : ℕ) → entry limit least s at ≡ got v n → entry limit least s at ≡ got (get_or s at 0) (at + 1)
+entry-here limit least s at v n h = entry_next limit least s at v n h ∙ ap (λ (e : ℕ). got e (at + 1)) (entry-byte limit least s at v n h).1
+
+-- so it is with a count
+within-is : (most first m a v n : ℕ) (s : List ℕ) → within most first m s a ≡ got v n → (v ≡ m) × (n ≡ a)
+unfolding within
+within-is most first m a v n s h = go (leb m most) _ h
+  where
+    go : (b : Bool) (w : Refusal) → pick b (got m a) (refused w) ≡ got v n → (v ≡ m) × (n ≡ a)
+    go true w h = (cc, cc)
+    go false w h = absurd (apart v n w (sym h))
+
+pub count-byte : (most : ℕ) (s : List ℕ) (at v n : ℕ) → count most s at ≡ got v n → (at < length s) × (v ≡ get_or s at 0) × (n ≡ at + 1)
+unfolding count
+count-byte most s at v n h =
+    let i = next-inv (byte s at) _ v n h in
+    let r = within-is most at i.0 i.1 v n s i.3 in
+    (byte-in s at i.0 i.1 i.2, r.0 ∙ byte-is s at i.0 i.1 i.2, r.1 ∙ byte_next s at i.0 i.1 i.2)
+
+pub count-here : (most : ℕ) (s : List ℕ) (at v n : ℕ) → count most s at ≡ got v n → count most s at ≡ got (get_or s at 0) (at + 1)
+count-here most s at v n h = let is = count-byte most s at v n h in h ∙ (λ i. got (is.1 i) (is.2 i))
 
 -- a turn of a loop over entries, of which `left` are left: the first of them was found, or refused
 module _ {B : Type 0} (limit least : ℕ) (s : List ℕ) (at : ℕ) (k : List ℕ → ℕ → Step B) where
