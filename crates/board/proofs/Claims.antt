@@ -30,6 +30,9 @@ value-claim r v h = omega arith
 pub claim-row : (L : ℕ) → claim (row L) (value L) ≡ L
 claim-row L = omega arith
 
+pub flip-flip : (v : ℕ) → v < 2 → 1 - (1 - v) ≡ v
+flip-flip v h = omega arith
+
 pub opposite-zero : (r : ℕ) → opposite (claim r 0) ≡ claim r 1
 opposite-zero r = omega arith
 
@@ -64,3 +67,6 @@ same_row L M e = elim (ℕ_discrete L M) [ yes h ↦ inl h | no n ↦ inr (omega
 
 pub not-own-opposite : (L : ℕ) → L ≡ opposite L → ⊥
 not-own-opposite L e = omega arith
+
+pub opposite-claim : (r v : ℕ) → v < 2 → opposite (claim r v) ≡ claim r (1 - v)
+opposite-claim r v h = omega arith

@@ -10,6 +10,8 @@
 --     rule-among, rule-breaks, rule-least     the lowest broken rule is a rule, is broken, and each below it holds
 --     rule-is         a rule of which this is true is the lowest broken one
 --     front-faultb    the same of a list that has the rules and then the excuses at its front
+--     front-some      some item of a list's front passes
+--     behind, behind-is, excuses-there      the slice of the masks behind the rules, where the excuses stand
 --     excused-more    if each excuse of a list contains all terms of some excuse of another, what the one excuses so does the other
 --     excused-by      a combination is excused exactly where the set of the true terms contains an excuse
 --     first-breaks, first-rule     the first rule that no true term is in: some rule is broken, and it is the lowest
@@ -24,7 +26,7 @@ use native.Mathlib.Decide.{dec_lt, ℕ_discrete}
 use native.Mathlib.Omega.{arith}
 use lib.Dec.{eqb}
 use lib.ListN.{length, get_or, take, drop, length-drop}
-use lib.Seq.{get_or-take, length-take-le}
+use lib.Seq.{take_all, get_or-take, length-take-le}
 use borrow.Author.Tests.{not-true, not-false}
 use Rattle.std.proofs.lemmas.Bool.{false_from_ne_true, true_from_ne_false}
 use Rattle.std.proofs.lemmas.Bool.Decides.{Decides-like, Decides-not, Decides-and, Decides-or, Decides-eqb, Decides-by_or, Decides-below_or}
@@ -34,7 +36,8 @@ use Rattle.wires.specs.Terms.{value, IsTrue, Holds, Breaks, Fault, Truths, Broke
 use Rattle.wires.proofs.Digits.{low_digit}
 use Rattle.wires.proofs.Terms.{holds}
 use Rattle.wires.proofs.Sets.{same_test, some_to, some-from, excuse-within}
-use Rattle.board.specs.JobBoard.{trueb, any_below, holdsb, breaksb, broken_rule, excusesb, excusedb, faultb}
+use Rattle.sheet.specs.declared.JobHead.{JobHead}
+use Rattle.board.specs.JobBoard.{Sized, trueb, any_below, holdsb, breaksb, broken_rule, excusesb, excusedb, faultb}
 use Rattle.board.specs.Tests.{lowest}
 use Rattle.board.proofs.Tests.{below-iff}
 use Rattle.board.proofs.Lowest.{lowest-at, lowest-least, lowest-is}
@@ -151,7 +154,7 @@ module _ (n : ℕ) (rules : List ℕ) (a x y : ℕ) where
       (λ i h. ap not ((holdsb-iff n a x y (get_or rules i 0)).1 (before i h)))
 
 -- only the first `count` of a list are looked at
-front-some : (P : ℕ → Type 0) (s : List ℕ) (count : ℕ) → count ≤ length s
+pub front-some : (P : ℕ → Type 0) (s : List ℕ) (count : ℕ) → count ≤ length s
     → ((i : ℕ) × (i < length (take count s)) × P (get_or (take count s) i 0)) ↔ ((i : ℕ) × (i < count) × P (get_or s i 0))
 front-some P s count long =
     let few = length-take-le count s long in (
@@ -168,6 +171,16 @@ front-faultb n masks count k a x y long =
       λ e. let f = test.0 e in (rules.0 f.0, λ h. f.1 (excuses.1 h)),
       λ f. test.1 (rules.1 f.0, λ h. f.1 (excuses.0 h)),
     )
+
+-- the excuses stand behind the rules: what the slice of the masks from that place on is
+abbrev pub behind : JobHead → List ℕ → List ℕ
+behind h masks = take (length masks - h.rules) (drop h.rules masks)
+
+pub behind-is : (h : JobHead) (masks : List ℕ) → behind h masks ≡ drop h.rules masks
+behind-is h masks = take_all (length masks - h.rules) (drop h.rules masks) (omega (arith, length-drop h.rules masks))
+
+pub excuses-there : (h : JobHead) (masks : List ℕ) → Sized h masks → h.excuses ≤ length (behind h masks)
+excuses-there h masks z = rw (behind-is h masks) (omega (arith, z.count, length-drop h.rules masks))
 
 -- ---- the excuses and the rules, held against the set of the true terms
 

@@ -19,14 +19,14 @@ use Rattle.steps.specs.declared.Outcome.{Outcome}
 use Rattle.steps.specs.Outcome.{refusal}
 use Rattle.sheet.specs.declared.Form.{Form}
 use Rattle.sheet.specs.declared.JobHead.{JobHead}
-use Rattle.wires.specs.Terms.{Setting}
+use Rattle.wires.specs.Terms.{Setting, Breaks, Excuses}
 use Rattle.wires.proofs.Sets.{same_test}
 use Rattle.answer.specs.AnswerSheet.{longest}
 use Rattle.board.specs.Board.{Board, Shows}
 use Rattle.board.specs.JobBoard.{head_board, Sized}
 use Rattle.board.proofs.Accepting.{Taken}
 use Rattle.board.proofs.Checked.{shows}
-use Rattle.board.proofs.Rules.{faultb-iff}
+use Rattle.board.proofs.Rules.{front-some, front-faultb}
 use Rattle.theory.specs.Same.{Same}
 use Rattle.theory.proofs.Same.{same-sym, same-shows, stands_same, first-same}
 use Rattle.cubes.specs.declared.table.Table.{Table}
@@ -142,9 +142,11 @@ module _ {h : JobHead} {masks : List ℕ} (z : Sized h masks) where
         let at : Setting h.wires a x y = record { wires = omega (arith, z.wires); below = l; cell_a = lx; cell_b = ly } in
         let tells = told.tells a x y at in
         let left = (rw (told.wires, excuses-are) at struck.tells) a x y at in
-        let test = faultb-iff h.wires (take h.rules masks) (take h.excuses (drop h.rules masks)) a x y in
-        same_test _ _ (λ e. let t = test.0 e in eq-eqb _ 1 (digits ∙ left.1 (tells.1 t.0, t.1)))
-        (λ e. let t = left.0 (sym digits ∙ eqb-true _ 1 e) in test.1 (tells.0 t.0, t.1))
+        let rules = front-some (Breaks h.wires a x y) masks h.rules (omega (arith, z.count)) in
+        let waived = front-some (Excuses h.wires a) (drop h.rules masks) h.excuses (omega (arith, z.count, length-drop h.rules masks)) in
+        let test = front-faultb h.wires masks h.rules h.excuses a x y z.count in
+        same_test _ _ (λ e. let t = test.0 e in eq-eqb _ 1 (digits ∙ left.1 (tells.1 (rules.1 t.0), λ w. t.1 (waived.0 w))))
+        (λ e. let t = left.0 (sym digits ∙ eqb-true _ 1 e) in test.1 (rules.0 (tells.0 t.0), λ w. t.1 (waived.1 w)))
 
     same : Same (head_board h masks) (grid_board (grid (shape ra rb) xs ys fs))
     same = record {

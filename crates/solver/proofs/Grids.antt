@@ -1,14 +1,15 @@
 -- The arrays of a search, and the sheets of what it found. A state of 512 places is lent up to the rows of the grid, scratch has 8,184 bytes.
---     searches          what a search is given
---     tables-room, walk-room      there is room for the sheet of what it found
---     tables-solved     where the search found the first pair, its sheet solves the board
---     walk-solved       where it found a walk, the walk's sheet solves the board
+--     blank-length, searches                        what a search is given
+--     state-fits, state-length, tables-room         the front of the state, where the search found the first pair, and room for its sheet
+--     tables-solved                                 its sheet solves the board
+--     walk-fits, walk-length, walk-room             the front of the scratch, where the search found a walk, and room for its sheet
+--     walk-solved                                   its sheet solves the board
 -- Assumes nothing.
 use mathlib.Core.Path.{◌≡◌, sym, ap, subst, ◌∙◌}
 use mathlib.Core.List.{List, ◌++◌}
 use Prim.Native.Nat.{ℕ, ◌+◌, ◌/◌, ◌≤◌}
 use native.Mathlib.Omega.{arith}
-use lib.ListN.{length, take, drop, replicate, length-drop, length-replicate, get_or-replicate, take-append-drop}
+use lib.ListN.{length, take, drop, replicate, length-append, length-drop, length-replicate, get_or-replicate, take-append-drop}
 use lib.Seq.{get_or-take, get_or-drop, take_at, length-take-le}
 use Rattle.steps.specs.declared.Outcome.{Outcome}
 use Rattle.steps.specs.Outcome.{success}
@@ -34,7 +35,7 @@ module _ {g : Grid} (ok : Sound g) where
   few : rows ≤ 512
   few = omega (arith, ok.sizes.few_a, ok.sizes.few_b)
 
-  blank-length : rows ≡ length {A = ℕ} (take rows (replicate 512 2))
+  pub blank-length : rows ≡ length {A = ℕ} (take rows (replicate 512 2))
   blank-length = sym (length-take-le rows (replicate 512 2) (omega (arith, few, length-replicate {A = ℕ} 512 2)))
 
   pub searches : Searches g (take rows (replicate 512 2)) (replicate 8184 0)
@@ -53,10 +54,13 @@ module _ {g : Grid} (ok : Sound g) where
     long : length S ≡ rows
     long = first.pair.tables.long
 
+    pub state-fits : rows ≤ length (S ++ more)
+    state-fits = omega (arith, long, length-append S more)
+
     front-is : front ≡ S
     front-is = take_at S more rows long
 
-    state-length : rows ≡ length front
+    pub state-length : rows ≡ length front
     state-length = sym (ap length front-is ∙ long)
 
     is-pair : IsPair rows_a g.shape.rows_b (take rows_a S) (drop rows_a S)
@@ -90,10 +94,10 @@ module _ {g : Grid} (ok : Sound g) where
     abbrev bytes : List ℕ
     bytes = take end W
 
-    walk-fits : end ≤ length W
+    pub walk-fits : end ≤ length W
     walk-fits = x.within
 
-    walk-length : end ≡ length bytes
+    pub walk-length : end ≡ length bytes
     walk-length = sym (length-take-le end W x.within)
 
     sheet-is : two 0 ++ two 0 ++ two (length bytes / 4) ++ bytes ≡ walk_sheet x.entries

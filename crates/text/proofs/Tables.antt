@@ -2,6 +2,7 @@
 --     digit_room, digit_written, digits_all    a turn of the loop that writes a digit for each row, and its end
 --     printed                     a text that is written from the front on is printed
 --     first-asks, second-asks     what the writer of digits asks of each table that stands in a sheet
+--     there                       the tables stand in the sheet
 --     middle-room, last-room      there is room for the line between them, and for the last line feed
 --     tables-printed              the five pieces are the text of the tables
 -- Assumes nothing.
@@ -63,7 +64,7 @@ module _ (s : List ℕ) (p : Page) (start : p.at ≡ 0) (ask : TablesAsk s p.byt
   few_b : b ≤ 256
   few_b = subst (λ (n : ℕ). n ≤ 256) (sym eb-there) ask.few_b
 
-  there : 4 + a + b ≤ length s
+  pub there : 4 + a + b ≤ length s
   there = rw (ea, eb-there) ask.there
 
   xs-length : length xs ≡ a

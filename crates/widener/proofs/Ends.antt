@@ -1,6 +1,6 @@
 -- How a widener call ends, each way from plain facts.
 --     taken_as                              from what the reader of jobs told and stored
---     refused-first, taken-first, taken-second      a job sheet is refused, or taken
+--     refused-first, taken-first, refused-second, taken-second      a job sheet is refused, or taken
 --     ends-walk, ends-checked               the answer is a walk that stands, or is refused by the checker
 --     wide-asks                             what `write_wide` asks is there
 --     ends-asks, ends-room, ends-written    tables that fit: Q asks more, no room, and the widened sheet
@@ -63,6 +63,9 @@ module _ (f : Form) (p q s entry : List ℕ) where
   taken-first P e x = rw e x
 
 module _ (P : Job) (f : Form) (q s entry : List ℕ) where
+  pub refused-second : (w : Refusal) {o : Outcome} → read_job f q ≡ rejected w → o ≡ refused_job 3 w → Ended (with_p P (read_job f q) s entry) o entry
+  refused-second w e eo = rw e (ended-as refl eo refl)
+
   pub taken-second : (Q : Job) {o : Outcome} {exit : List ℕ} → read_job f q ≡ accepted Q → Ended (with_both P Q s entry) o exit → Ended (with_p P (read_job f q) s entry) o exit
   taken-second Q e x = rw e x
 

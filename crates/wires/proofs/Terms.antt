@@ -72,6 +72,9 @@ pub record Tells (w set v : ℕ) : Type 0 where
   pub small : set < 2 ^ (2 * v)
   pub told : (k : ℕ) → k < v → Told w set k
 
+pub tells_none : (w : ℕ) → Tells w 0 0
+tells_none w = record { small = omega arith; told = λ k l. (omega arith, omega arith) }
+
 -- of the two digits 2 - d the upper one
 other : (d : ℕ) → d < 2 → (2 - d) / 2 % 2 ≡ 1 - d
 other zero h = refl

@@ -2,7 +2,7 @@
 --     pins-.., fewer, set-.., each-..         the parts of `judge_pins`, `judge_set`, `judge_each`
 --     pin_steps, rule_steps                   those that judging one by one stands on
 --     pins-few, rules-few, judge-fine         what a part, or the whole, says where it is fine
---     fine-.., stored-exit          the outcome, and what the buffer holds
+--     fine-.., stored-exit, amiss-..          the outcome, and what the buffer holds
 -- Assumes nothing.
 use mathlib.Core.Path.{◌≡◌, refl, sym, ap, ◌∙◌}
 use mathlib.Core.Bool.{Bool, true, false}
@@ -130,3 +130,12 @@ module _ (j : Job) (buf : List ℕ) (fine : judge j (length buf) ≡ Ok tt) wher
   pub stored-exit : (after : List ℕ) → after ≡ sets buf 0 (job_sheet j) → after ≡ write_exit j buf
   stored-exit after g =
       g ∙ at_front buf (job_sheet j) (omega (arith, (judge-fine j (length buf) fine).2)) ∙ sym fine-exit
+
+module _ (j : Job) (buf : List ℕ) (a : Amiss) (amiss : judge j (length buf) ≡ Err a) where
+  pub amiss-outcome : write_outcome j (length buf) ≡ refusal_of a
+  unfolding write_outcome
+  amiss-outcome = rw amiss
+
+  pub amiss-exit : write_exit j buf ≡ buf
+  unfolding write_exit
+  amiss-exit = rw amiss
