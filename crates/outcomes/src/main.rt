@@ -8,7 +8,7 @@
 // input ends early, a byte of a number is 0 and a sheet is what was read of it.
 #![tactic(auto)]
 
-ghost use Rattle.std.specs.Prelude.{◌<◌, ◌≤◌, IfOk, length};
+ghost use Rattle.std.specs.Prelude.{◌≡◌, ◌+◌, ◌*◌, ◌<◌, ◌≤◌, IfOk, length};
 
 use answer::LONGEST;
 use sheet::Form;
@@ -20,13 +20,20 @@ use text::LONGEST_NUMBERS;
 // A length is two bytes, so this many bytes hold any sheet.
 const SHEET: usize = 65536;
 
-// Reads a number of two bytes, low byte first.
+// A number of two bytes, low byte first.
+fn word(low: u8, high: u8) -> u16
+    ensures { result ≡ low + 256 * high }
+{
+    u16::from_le_bytes([low, high])
+}
+
+// Reads a number of two bytes.
 fn read_word<R: Read>(book: &mut R) -> io::Result<u16>
     ensures { IfOk result (λ n. n < 65536) }
 {
     let mut bytes = [0u8; 2];
     input::read_full(book, &mut bytes)?;
-    Ok(u16::from_le_bytes(bytes))
+    Ok(word(bytes[0], bytes[1]))
 }
 
 // Reads the form of a case's job sheets: two for the byte 2, one for any other.
