@@ -1,4 +1,5 @@
 -- An answer sheet for the board of a job in numbers: what the reader of answers told, and the judgement of its bytes.
+--     tables-are, walk_is, refused-is          what the verdict on the sheet is, from the reader's answer
 --     tables-told, walk-told, refused-told     what the sheet comes to, from the reader's answer
 --     tables-in, walk-holds                    what is known of the bytes of tables, and of a walk
 --     tables-judged, walk-judged, refused-judged     the judgement of the bytes is that of the sheet
@@ -38,17 +39,17 @@ use Rattle.board.proofs.Walking.{Placed, walk-in}
 
 -- ---- what was told
 
-tables-are : (v : AnswerVerdict) → Ok Tables ≡ as_answer v → (xs : List ℕ) × (ys : List ℕ) × (v ≡ answered (tables xs ys))
+pub tables-are : (v : AnswerVerdict) → Ok Tables ≡ as_answer v → (xs : List ℕ) × (ys : List ℕ) × (v ≡ answered (tables xs ys))
 tables-are (answered (tables xs ys)) e = (xs, ys, refl)
 tables-are (answered (walk es)) e = cc
 tables-are (rejected w) e = cc
 
-walk_is : (v : AnswerVerdict) (k : ℕ) → Ok (Walk k) ≡ as_answer v → (es : List Entry) × (v ≡ answered (walk es)) × (k ≡ length es)
+pub walk_is : (v : AnswerVerdict) (k : ℕ) → Ok (Walk k) ≡ as_answer v → (es : List Entry) × (v ≡ answered (walk es)) × (k ≡ length es)
 walk_is (answered (tables xs ys)) k e = cc
 walk_is (answered (walk es)) k e = (es, refl, cc)
 walk_is (rejected w) k e = cc
 
-refused-is : (v : AnswerVerdict) (w : Refusal) → Err w ≡ as_answer v → v ≡ rejected w
+pub refused-is : (v : AnswerVerdict) (w : Refusal) → Err w ≡ as_answer v → v ≡ rejected w
 refused-is (answered (tables xs ys)) w e = cc
 refused-is (answered (walk es)) w e = cc
 refused-is (rejected w') w e = cc

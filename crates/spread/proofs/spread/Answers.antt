@@ -1,11 +1,11 @@
 -- `spread::spread` meets its contract, by its invariant. Assumes nothing.
-use Rattle.std.proofs.Common.{arith, refl}
+use Rattle.std.proofs.Common.{arith, refl, ◌∙◌, length-set}
 use Rattle.spread.proofs.Front.{front-start, front-turn, front_below, front-done}
 use Rattle.scan.proofs.Arrays.{arrays-trans}
 use Rattle.spread.proofs.spread.Goals as goal
 
 pub loop-head-init : goal.loop-head-init
-loop-head-init c = (front-start c.requires.inside c.requires.room c.clear.auto.reached c.clear.ensures, record { reached = refl; queue = refl; from = refl; by = refl })
+loop-head-init c = (front-start c.requires.inside c.requires.room c.clear.auto.reached c.clear.ensures, record { reached = refl; queue = refl; from = refl; by = refl; long = record { reached = length-set _ _ _ ∙ c.clear.auto.reached; queue = length-set _ _ _; from = refl; by = refl } })
 
 pub offset_bounds-store-head : goal.offset_bounds-store-head
 offset_bounds-store-head c = omega (arith, front_below c.loop-head.invariant.0 c.loop-head-test.true, c.loop-head.invariant.0.reach.room.queue)
